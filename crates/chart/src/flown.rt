@@ -1,0 +1,6 @@
+// How long a list of legs takes at high times, and how many legs it has.
+#[derive(Clone, Copy, PartialEq, Eq, Debug)]
+pub struct Flown {
+    pub seconds: u32,
+    pub legs: u16,
+}

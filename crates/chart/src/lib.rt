@@ -1,0 +1,8 @@
+// Legs, charts of legs, the table and the lattice, and the kinds of totals that a route can have.
+pub mod charts;
+pub mod choices;
+pub mod flown;
+pub mod kinds;
+pub mod leg;
+pub mod limits;
+pub mod row;
