@@ -1,10 +1,8 @@
 -- What a kind of total is, and two of the kinds: seconds under a choice of times, and level.
 use mathlib.Core.Path.{_≡_}
 use mathlib.Core.Bool.{Bool, true, false}
-use mathlib.Core.Logic.{_⊎_, inl, inr}
+use mathlib.Core.Logic.{_⊎_}
 use Prim.Native.Nat.{ℕ, _+_, _<_, _≤_, min}
-use native.Mathlib.Decide.{decLe}
-use native.Mathlib.Omega.{arith}
 use Rattle.chart.specs.declared.leg.Leg.{Leg}
 use Rattle.chart.specs.Limits.{max-fixes, max-level}
 

@@ -1,8 +1,12 @@
 pub mod Limits
 pub mod Legs
+pub mod Refusals
+pub mod Rows
 pub mod Routes
 pub mod Kinds
 pub mod Quickest
-pub mod Lawful
 pub mod Best
 pub mod Sizes
+pub mod KindLaws
+pub mod ChartLaws
+pub mod Tables

@@ -1,12 +1,9 @@
 -- The kind that counts high-time seconds and legs side by side.
 use mathlib.Core.Path.{_≡_}
-use mathlib.Core.Logic.{_⊎_, inl, inr}
-use Prim.Native.Nat.{ℕ, _+_, _<_, _≤_}
-use native.Mathlib.Omega.{arith}
-use Rattle.std.proofs.shelf.Tests.{cases-eq, cases-lt}
-use Rattle.chart.specs.declared.leg.Leg.{Leg}
+use mathlib.Core.Logic.{_⊎_}
+use Prim.Native.Nat.{_+_, _<_, _≤_}
 use Rattle.chart.specs.declared.flown.Flown.{Flown}
-use Rattle.chart.specs.Kinds.{Rule, Laws}
+use Rattle.chart.specs.Kinds.{Rule}
 
 -- fewer seconds is better, then fewer legs
 abbrev pub Sooner : Flown → Flown → Type 0

@@ -4,7 +4,7 @@ ghost use mathlib.Core.Path.{_≡_};
 ghost use Prim.Native.Nat.{ℕ, _≤_};
 ghost use Rattle.chart.specs.declared.leg.Leg.{Leg};
 ghost use Rattle.chart.specs.Kinds.{Times, Bounded, high-times, low-times};
-ghost use Rattle.chart.specs.Lawful.{high-bounded, low-bounded};
+ghost use Rattle.chart.specs.KindLaws.{high-bounded, low-bounded};
 
 // A choice of times: `times` gives the time of a leg from its number and the leg itself.
 pub trait Choice {

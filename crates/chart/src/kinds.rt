@@ -9,7 +9,7 @@ ghost use Prim.Native.Nat.{ℕ};
 ghost use Rattle.chart.specs.Sizes.{Compact};
 ghost use Rattle.chart.specs.Kinds.{Rule, Laws, Few, Betters, seconds-rule, level-rule};
 ghost use Rattle.chart.specs.Quickest.{quickest-rule};
-ghost use Rattle.chart.specs.Lawful.{seconds-laws, quickest-laws, level-laws};
+ghost use Rattle.chart.specs.KindLaws.{seconds-laws, quickest-laws, level-laws};
 
 // A kind of total: what a total starts as, how a leg is added, and which of two is better.
 pub trait Kind {

@@ -1,8 +1,12 @@
 // Legs, charts of legs, the table and the lattice, and the kinds of totals that a route can have.
 pub mod charts;
+pub mod checks;
 pub mod choices;
 pub mod flown;
 pub mod kinds;
 pub mod leg;
 pub mod limits;
+pub mod refusals;
 pub mod row;
+pub mod table;
+pub mod table_chart;

@@ -1,0 +1,7 @@
+use mathlib.Core.Path.{refl}
+use Rattle.chart.specs.Tables.{table-legs}
+use Rattle.chart.proofs.table.Table.new.Needs as need
+
+pub returns : need.returns
+unfolding table-legs
+returns c = record { over = refl; empty = (refl, refl) }
