@@ -10,3 +10,6 @@ pub mod Sizes
 pub mod KindLaws
 pub mod ChartLaws
 pub mod Tables
+pub mod Grid
+pub mod GridLaws
+pub mod Lattices

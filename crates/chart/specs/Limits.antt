@@ -1,5 +1,5 @@
 -- The limits of charts and legs, by name. src/limits.rt has the same numbers for the code.
-use Prim.Native.Nat.{ℕ}
+use Prim.Native.Nat.{ℕ, _-_}
 
 -- a chart has from 2 to 200 fixes
 abbrev pub min-fixes : ℕ
@@ -19,3 +19,14 @@ max-seconds = 100000
 -- and its top level is at most 600, in hundreds of feet
 abbrev pub max-level : ℕ
 max-level = 600
+
+-- a lattice has from 1 to 10 rows and from 2 to 20 columns
+abbrev pub max-rows : ℕ
+max-rows = 10
+
+abbrev pub max-columns : ℕ
+max-columns = 20
+
+-- and a step from each column but the last to the next
+abbrev pub max-steps : ℕ
+max-steps = max-columns - 1

@@ -14,3 +14,12 @@ pub const MAX_SECONDS: u32 = 100_000;
 
 // The highest top level of a leg, in hundreds of feet.
 pub const MAX_LEVEL: u16 = 600;
+
+// The most rows of a lattice.
+pub const MAX_ROWS: u16 = 10;
+
+// The most columns of a lattice.
+pub const MAX_COLUMNS: u16 = 20;
+
+// The most steps of a lattice: one fewer than its columns.
+pub const MAX_STEPS: usize = 19;
