@@ -1,3 +1,4 @@
 pub mod Sums
+pub mod Short
 pub mod RowLegs
 pub mod Grids

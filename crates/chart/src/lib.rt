@@ -9,6 +9,7 @@ pub mod lattice_chart;
 pub mod leg;
 pub mod limits;
 pub mod refusals;
+pub mod routes;
 pub mod row;
 pub mod step;
 pub mod table;
