@@ -22,9 +22,9 @@ flags-suffice (x ∷ xs) flags d h =
     let z : _≡_ {A = ℕ} (cond (getD flags x false) 1 0) 0 = ap (λ b. cond b 1 0) (here .1) in
     let l = length-set flags x true in
     let more = flags-suffice xs (set flags x true) (d .1) (λ y i.
-        let hy = h y (inr i) in
-        let ne : y ≡ x → ⊥ = λ e. d .0 (subst (λ v. In v xs) e i) in
-        (omega (arith, hy .0), getD-set-other flags x y true false ne ∙ hy .1)) in
+    let hy = h y (inr i) in
+    let ne : y ≡ x → ⊥ = λ e. d .0 (subst (λ v. In v xs) e i) in
+    (omega (arith, hy .0), getD-set-other flags x y true false ne ∙ hy .1)) in
     omega arith
 
 -- numbers below n, none of them twice, are at most n

@@ -1,0 +1,2 @@
+pub mod FourRoutes
+pub mod FourTotals
