@@ -1,5 +1,5 @@
 // How long a list of legs takes at high times, and how many legs it has.
-#[derive(Clone, Copy, PartialEq, Eq, Debug)]
+#[derive(Clone, Copy)]
 pub struct Flown {
     pub seconds: u32,
     pub legs: u16,

@@ -22,6 +22,7 @@ pub trait Kind {
     // The total of no legs.
     fn start(&self) -> Self::Total
         ensures value { λ r. ⌜ r ≡ rule (now (self .entry)) .start ⌝ }
+        ensures lawful { λ _. ⌜ Laws (rule (now (self .entry))) ⌝ }
         ensures compact { λ _. ⌜ Compact Self·Total·row ⌝ };
 
     // The total with the leg `leg`, which has the number `k`, added. A total is only made of as many

@@ -35,7 +35,7 @@ fn is_shaped(rows: u16, columns: u16, steps: usize) -> bool
 
 impl Interval {
     // Whether the interval is within the limits of times.
-    pub fn is_span(&self) -> bool
+    fn is_span(&self) -> bool
         ensures { λ r. ⌜ When r (Spans (now (self .entry))) (Spans (now (self .entry)) → ⊥) ⌝ }
     {
         self.low <= self.high && self.high <= MAX_SECONDS
@@ -44,7 +44,7 @@ impl Interval {
 
 impl Step {
     // Whether each of the three intervals is within the limits of times.
-    pub fn is_timed(&self) -> bool
+    fn is_timed(&self) -> bool
         ensures { λ r. ⌜ When r (StepTimed (now (self .entry))) (StepTimed (now (self .entry)) → ⊥) ⌝ }
     {
         for interval in &self.turns {

@@ -4,7 +4,7 @@ ghost use Rattle.chart.specs.declared.refusals.TableRefusal.the-variants.{BadR
 ghost use Rattle.chart.specs.Refusals.{row-number, table-number, lattice-number};
 
 // Why a row is no leg of a chart.
-#[derive(Clone, Copy, PartialEq, Eq, Debug)]
+#[derive(Clone, Copy)]
 pub enum RowRefusal {
     // A time or the level is outside its limits, or low is above high.
     BadTimes,
@@ -24,7 +24,7 @@ impl RowRefusal {
 }
 
 // Why a table does not take its rows.
-#[derive(Clone, Copy, PartialEq, Eq, Debug)]
+#[derive(Clone, Copy)]
 pub enum TableRefusal {
     // The number of fixes or of rows is outside its limits.
     BadCounts,
@@ -52,7 +52,7 @@ pub impl From<RowRefusal> for TableRefusal as TableRefusalFrom {
 }
 
 // Why a lattice is refused.
-#[derive(Clone, Copy, PartialEq, Eq, Debug)]
+#[derive(Clone, Copy)]
 pub enum LatticeRefusal {
     // The rows or columns are outside their limits, or the steps are not one fewer than the columns.
     BadGrid,

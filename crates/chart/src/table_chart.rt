@@ -66,9 +66,13 @@ impl<'a> Table<'a> {
         ensures over { λ _. ⌜ now (now (self .exit) .rows) ≡ now (now (self .entry) .rows) ⌝ }
         ensures takes_exactly_its_rows { λ r. ⌜ Cases r (λ _. (now (self .exit) .fixes ≡ n) × (map plain (table-legs (now (self .exit))) ≡ now (now (self .entry) .rows))) (λ e. TableOwes n (now (now (self .entry) .rows)) e × (now (self .exit) ≡ now (self .entry))) ⌝ }
     {
-        let count = checked(n, self.rows)?;
-        self.fixes = n;
-        self.count = count;
+        let rows = self.rows;
+        let count = checked(n, rows)?;
+        *self = Table {
+            fixes: n,
+            count,
+            rows,
+        };
         Ok(())
     }
 }

@@ -1,4 +1,4 @@
-use mathlib.Core.Path.{sym, _∙_}
+use native.Mathlib.Omega.{arith}
 use Rattle.chart.specs.Grid.{grid-legs}
 use Rattle.chart.specs.GridLaws.{length-grid}
 use Rattle.chart.specs.ChartLaws.{length-legs}
@@ -9,4 +9,4 @@ pub returns : need.returns
 unfolding lattice-legs
 returns c =
     let l = c .args .self .now in
-    sym (length-legs (grid-legs (l .rows) (l .columns) (l .top) (l .steps)) ∙ length-grid (l .rows) (l .columns) (l .top) (l .steps))
+    omega (arith, length-legs (grid-legs (l .rows) (l .columns) (l .top) (l .steps)), length-grid (l .rows) (l .columns) (l .top) (l .steps))

@@ -15,7 +15,7 @@ pub ghost-result : need.ghost-result
 ghost-result c =
     let t = c .args .self .now in
     let k = c .args .k in
-    let h : k < t .count = c .if-k-self .left in
+    let h : k < t .count = omega (arith, c .if-k-self .left) in
     (t .apart k h, (t .ordered k h, (t .bounded k h, (t .level k h, tt))))
 
 pub returns : need.returns
@@ -23,6 +23,6 @@ unfolding table-legs
 returns c =
     let t = c .args .self .now in
     let k = c .args .k in
-    let h : k < t .count = c .if-k-self .left in
+    let h : k < t .count = omega (arith, c .if-k-self .left) in
     ap Some (leg-of-plain _ ∙ ap leg-of (sym (row-taken t k h)))
     ∙ sym (numbered-legs (taken t) k (omega (arith, length-taken t)))

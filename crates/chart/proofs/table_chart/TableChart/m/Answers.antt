@@ -1,8 +1,8 @@
-use mathlib.Core.Path.{sym, _∙_}
+use native.Mathlib.Omega.{arith}
 use Rattle.chart.specs.Tables.{table-legs, taken, length-taken}
 use Rattle.chart.specs.ChartLaws.{length-legs}
 use Rattle.chart.proofs.table_chart.TableChart.m.Needs as need
 
 pub returns : need.returns
 unfolding table-legs
-returns c = let t = c .args .self .now in sym (length-legs (taken t) ∙ length-taken t)
+returns c = let t = c .args .self .now in omega (arith, length-legs (taken t), length-taken t)
