@@ -2,12 +2,14 @@
 use mathlib.Core.Path.{_≡_, sym, ap, subst, _∙_}
 use mathlib.Core.List.{List, map}
 use Prim.Native.Nat.{ℕ, _+_, _-_, _*_, _/_, _%_, _<_, _≤_}
+use native.Mathlib.Nat.{add-mul}
 use native.Mathlib.Omega.{arith}
 use lib.Arith.{digits-lt, digits-div, digits-mod}
 use lib.ListN.{length, getD}
 use Rattle.std.proofs.shelf.Bits.{mul-le}
 use Rattle.std.proofs.shelf.Lists.{getD-default}
 use Rattle.chart.specs.declared.row.Row.{Row}
+use Rattle.chart.specs.declared.row.Standing.{Standing}
 use Rattle.chart.specs.declared.row.Standing.the-variants.{Open}
 use Rattle.chart.specs.declared.step.Step.{Step}
 use Rattle.chart.specs.declared.lattice.Lattice.{Lattice}
@@ -15,7 +17,7 @@ use Rattle.chart.specs.Limits.{max-fixes, max-rows, max-columns, max-steps, ma
 use Rattle.std.proofs.shelf.Counted.{fill-by-all}
 use Rattle.chart.specs.Rows.{plain, leg-of, row-at, no-row}
 use Rattle.chart.specs.Grid.{grid-legs, Shaped, Spans, StepTimed, StepsTimed, Copied, no-step, turn-at, step-at, step-legs, grid-size, step-of, row-of, turn-of, grid-leg, Numbers, GridNumbered}
-use Rattle.chart.specs.GridLaws.{kth-leg, grid-list, length-grid, grid-at, numbers, leaves-below, enters-below, fixes-apart, grid-sound}
+use Rattle.chart.specs.GridLaws.{kth-leg, grid-list, length-grid, grid-at, numbers, leaves-below, enters-below, grid-sound}
 use Rattle.chart.proofs.RowLegs.{rows-back}
 
 -- the numbers of a leg of a lattice are small
@@ -43,6 +45,11 @@ small-leg l k h =
       to-small = omega (arith, n .arrives);
     }
 
+-- a row is known by its numbers
+row-by : (f f′ t t′ l l′ h h′ p p′ : ℕ) (s s′ : Standing) → f ≡ f′ → t ≡ t′ → l ≡ l′ → h ≡ h′ → p ≡ p′ → s ≡ s′ →
+    _≡_ {A = Row} (record { from = f; to = t; low = l; high = h; top = p; standing = s }) (record { from = f′; to = t′; low = l′; high = h′; top = p′; standing = s′ })
+row-by f f′ t t′ l l′ h h′ p p′ s s′ ef et el eh ep es = cc
+
 -- the leg k of a lattice, from its step as it was read
 module _ (l : Lattice) (k : ℕ) (x : Step) (h : k < grid-size (l .rows) (l .columns)) where
   steps-read : step-at (l .steps) (step-of (l .rows) k) ≡ getD (l .steps) (step-of (l .rows) k) x
@@ -54,29 +61,28 @@ module _ (l : Lattice) (k : ℕ) (x : Step) (h : k < grid-size (l .rows) (l .col
       subst (λ (y : Step). Spans (turn-at y (turn-of (l .rows) k))) steps-read
       (record { ordered = l .ordered _ _ (n .step-there) (n .turn-there); bounded = l .bounded _ _ (n .step-there) (n .turn-there) })
 
-  pub apart-read : step-of (l .rows) k * l .rows + row-of (l .rows) k ≡ (step-of (l .rows) k + 1) * l .rows + row-of (l .rows) k + turn-of (l .rows) k - 1 → ⊥
-  apart-read = fixes-apart (l .rows) (l .columns) (l .top) (l .steps) _ _ _ k (l .some) (numbers (l .rows) (l .columns) k (l .some) h)
+  -- a leg leaves a fix before those of the next column, and enters one of these
+  pub ends-read : (step-of (l .rows) k * l .rows + row-of (l .rows) k < (step-of (l .rows) k + 1) * l .rows) × (1 ≤ row-of (l .rows) k + turn-of (l .rows) k)
+  ends-read =
+      let n = numbers (l .rows) (l .columns) k (l .some) h in
+      (omega (arith, add-mul (step-of (l .rows) k) 1 (l .rows), n .row-there), n .arrives)
 
-  pub leg-read :
-      _≡_ {A = Row} (record {
-        from = step-of (l .rows) k * l .rows + row-of (l .rows) k;
-        to = (step-of (l .rows) k + 1) * l .rows + row-of (l .rows) k + turn-of (l .rows) k - 1;
-        low = turn-at (getD (l .steps) (step-of (l .rows) k) x) (turn-of (l .rows) k) .low;
-        high = turn-at (getD (l .steps) (step-of (l .rows) k) x) (turn-of (l .rows) k) .high;
-        top = l .top;
-        standing = Open;
-      })
-      (row-at (grid-legs (l .rows) (l .columns) (l .top) (l .steps)) k)
+  -- a row with the numbers of the leg k is that leg's
+  pub leg-read : (r : Row) →
+      r .from ≡ step-of (l .rows) k * l .rows + row-of (l .rows) k →
+      r .to ≡ (step-of (l .rows) k + 1) * l .rows + row-of (l .rows) k + turn-of (l .rows) k - 1 →
+      r .low ≡ turn-at (getD (l .steps) (step-of (l .rows) k) x) (turn-of (l .rows) k) .low →
+      r .high ≡ turn-at (getD (l .steps) (step-of (l .rows) k) x) (turn-of (l .rows) k) .high →
+      r .top ≡ l .top →
+      r .standing ≡ Open →
+      r ≡ row-at (grid-legs (l .rows) (l .columns) (l .top) (l .steps)) k
   unfolding grid-leg
-  leg-read =
-      ap (λ (y : Step). record {
-        from = step-of (l .rows) k * l .rows + row-of (l .rows) k;
-        to = (step-of (l .rows) k + 1) * l .rows + row-of (l .rows) k + turn-of (l .rows) k - 1;
-        low = turn-at y (turn-of (l .rows) k) .low;
-        high = turn-at y (turn-of (l .rows) k) .high;
-        top = l .top;
-        standing = Open;
-      }) (sym steps-read)
+  leg-read r from to low high top standing =
+      row-by (r .from) _ (r .to) _ (r .low) _ (r .high) _ (r .top) _ (r .standing) _
+      from to
+      (low ∙ ap (λ (y : Step). turn-at y (turn-of (l .rows) k) .low) (sym steps-read))
+      (high ∙ ap (λ (y : Step). turn-at y (turn-of (l .rows) k) .high) (sym steps-read))
+      top standing
       ∙ sym (grid-at (l .rows) (l .columns) (l .top) (l .steps) k h)
 
 -- a step, a row and a turn within the grid have a number, and it has them

@@ -5,7 +5,7 @@ use chart::kinds::Level;
 use chart::kinds::LevelKind;
 use chart::kinds::Quickest;
 use chart::kinds::QuickestKind;
-use search::bests::best;
+use search::best::best;
 use std::io;
 
 // What a refusal's number says, in a few words.

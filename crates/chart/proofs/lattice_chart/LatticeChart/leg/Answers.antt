@@ -1,4 +1,4 @@
-use mathlib.Core.Path.{sym, ap, _∙_}
+use mathlib.Core.Path.{refl, sym, ap, _∙_}
 use native.Mathlib.Omega.{arith}
 use Rattle.std.specs.declared.option.Option.the-variants.{Some}
 use Rattle.chart.specs.Rows.{leg-of}
@@ -6,7 +6,7 @@ use Rattle.chart.specs.Grid.{grid-legs}
 use Rattle.chart.specs.GridLaws.{length-grid}
 use Rattle.chart.specs.Lattices.{lattice-legs}
 use Rattle.chart.proofs.RowLegs.{leg-of-plain, numbered-legs, numbered-past}
-use Rattle.chart.proofs.Grids.{small-leg, spans-read, apart-read, leg-read}
+use Rattle.chart.proofs.Grids.{small-leg, spans-read, ends-read, leg-read}
 use Rattle.chart.proofs.lattice_chart.LatticeChart.leg.Needs as need
 
 pub returns-then-k-self : need.returns-then-k-self
@@ -41,12 +41,13 @@ ghost-result c =
     let l = c .args .self .now in
     let h = c .if-k-self .left in
     let spans = spans-read l (c .args .k) (c .index-self-s .result) h in
-    (apart-read l (c .args .k) (c .index-self-s .result) h, (spans .ordered, (spans .bounded, (l .level, tt))))
+    let ends = ends-read l (c .args .k) (c .index-self-s .result) h in
+    ((λ e. omega (arith, ends .0, ends .1)), (spans .ordered, (spans .bounded, (l .level, tt))))
 
 pub returns : need.returns
 unfolding lattice-legs
 returns c =
     let l = c .args .self .now in
     let h = c .if-k-self .left in
-    ap Some (leg-of-plain _ ∙ ap leg-of (leg-read l (c .args .k) (c .index-self-s .result) h))
+    ap Some (leg-of-plain _ ∙ ap leg-of (leg-read l (c .args .k) (c .index-self-s .result) h _ (omega arith) (omega arith) refl refl refl refl))
     ∙ sym (numbered-legs (grid-legs (l .rows) (l .columns) (l .top) (l .steps)) (c .args .k) (omega (arith, length-grid (l .rows) (l .columns) (l .top) (l .steps))))
