@@ -1,4 +1,7 @@
-pub mod Sums
+pub mod Numbers
+pub mod Chains
+pub mod Within
 pub mod Short
+pub mod Sums
 pub mod RowLegs
 pub mod Grids

@@ -5,22 +5,20 @@ use Prim.Native.Nat.{ℕ, suc, _<_, _≤_}
 use native.Mathlib.Omega.{arith}
 use lib.ListN.{length, take}
 use Rattle.std.proofs.shelf.Lists.{take-all}
-use Rattle.std.proofs.shelf.Maps.{nth-getD, nth-past}
 use Rattle.std.specs.declared.option.Option.the-variants.{Some, None}
 use Rattle.chart.specs.declared.row.Row.{Row}
-use Rattle.chart.specs.Legs.{at, no-leg, numbered}
+use Rattle.chart.specs.Legs.{numbered}
 use Rattle.chart.specs.Rows.{plain, row-at, leg-of, AllSound}
 use Rattle.chart.specs.declared.leg.Leg.{Leg}
 use Rattle.chart.specs.ChartLaws.{leg-of-row, plain-sound, length-legs, at-legs}
+use Rattle.chart.proofs.Numbers.{numbered-there, numbered-past}
 
 module _ (rows : List Row) where
   pub numbered-legs : (k : ℕ) → k < length rows → numbered (map leg-of rows) k ≡ Some (leg-of (row-at rows k))
-  unfolding numbered at
-  numbered-legs k h = nth-getD (map leg-of rows) k no-leg (omega (arith, length-legs rows)) ∙ ap Some (at-legs rows k h)
+  numbered-legs k h = numbered-there (map leg-of rows) k (omega (arith, length-legs rows)) ∙ ap Some (at-legs rows k h)
 
-  pub numbered-past : (k : ℕ) → length rows ≤ k → numbered (map leg-of rows) k ≡ None
-  unfolding numbered
-  numbered-past k h = nth-past (map leg-of rows) k (omega (arith, length-legs rows))
+  pub no-leg-past : (k : ℕ) → length rows ≤ k → numbered (map leg-of rows) k ≡ None
+  no-leg-past k h = numbered-past (map leg-of rows) k (omega (arith, length-legs rows))
 
 -- the legs of sound rows have the numbers of the rows
 pub rows-back : (n : ℕ) (rows : List Row) → AllSound n rows (length rows) → map plain (map leg-of rows) ≡ rows

@@ -11,6 +11,7 @@ use Rattle.std.proofs.shelf.Lists.{getD-set-other, getD-replicate, length-repli
 use Rattle.std.proofs.shelf.Sums.{sumBy-set, countBy-le-length}
 use Rattle.chart.specs.declared.leg.Leg.{Leg}
 use Rattle.chart.specs.Legs.{at, Charted}
+use Rattle.chart.proofs.Within.{route-leaves-fix}
 use Rattle.chart.specs.Routes.{Leads, entered, met, In, Once, Chain, Route, RoutesAreShort}
 
 -- each number sets a flag of its own
@@ -49,10 +50,5 @@ module _ (fixes : ℕ) (legs : List Leg) (charted : Charted fixes legs) where
       let few = once-few (met legs s ks) fixes (chain .once) (λ x i. ⊎-elim (λ e. omega arith) (λ j. entered-below ks s t (chain .leads) x j) i) in
       omega (arith, length-entered legs ks)
 
-  -- a route leaves a fix of the chart
-  pub leaves-below : (ks : List ℕ) (s t : ℕ) → Route legs s t ks → s < fixes
-  leaves-below [] s t r = absurd (let some = r .some in omega arith)
-  leaves-below (k ∷ ks) s t r = let first = r .chain .leads .0 in let h = charted .leaves k (first .there) in omega (arith, first .from)
-
   pub routes-short : RoutesAreShort fixes legs
-  routes-short s t ks r = let h = chain-short ks s t (leaves-below ks s t r) (r .chain) in omega arith
+  routes-short s t ks r = let h = chain-short ks s t (route-leaves-fix legs charted s t ks r) (r .chain) in omega arith

@@ -17,7 +17,7 @@ use Rattle.search.specs.declared.mark.Mark.the-variants.{Reached}
 use Rattle.search.specs.Labels.{label-at, Known, Done, done}
 use Rattle.search.specs.State.{Quest, Way, Eased, Turn, Offered, took, held}
 use Rattle.search.proofs.Choosing.{as-good-as-itself}
-use Rattle.search.proofs.Chains.{in-met-push, chain-push, total-push, made-of-its-legs}
+use Rattle.chart.proofs.Chains.{in-met-push, chain-push, total-push, made-of-its-legs}
 use Rattle.search.proofs.Marks.{reached-settled, reached-blank, settled-blank, known-small, mark-here, done-on, done-back, known-on, known-back, done-same, done-not-all}
 
 -- the label of a fix

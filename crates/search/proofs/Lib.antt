@@ -1,8 +1,6 @@
-pub mod Numbers
 pub mod Linking
 pub mod Leaving
 pub mod Choosing
-pub mod Chains
 pub mod Marks
 pub mod Easing
 pub mod Turns

@@ -3,7 +3,7 @@ use native.Mathlib.Omega.{arith}
 use Rattle.chart.specs.Routes.{Route}
 use Rattle.search.specs.Snapshots.{legs-of}
 use Rattle.search.specs.Sound.{snapshot-charted}
-use Rattle.search.proofs.Ends.{route-leaves-fix, route-enters-fix, route-goes-away}
+use Rattle.chart.proofs.Within.{route-leaves-fix, route-enters-fix, route-goes-away}
 use Rattle.search.proofs.best.best_on.Needs as need
 
 pub returns-then-departure-snapshot : need.returns-then-departure-snapshot

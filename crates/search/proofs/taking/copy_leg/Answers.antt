@@ -1,5 +1,5 @@
 use mathlib.Core.Path.{sym}
-use Rattle.search.proofs.Numbers.{numbered-is, numbered-not}
+use Rattle.chart.proofs.Numbers.{numbered-is, numbered-not}
 use Rattle.search.proofs.Linking.{copied-more}
 use Rattle.search.proofs.taking.copy_leg.Needs as need
 

@@ -5,7 +5,7 @@ use Rattle.chart.specs.Rows.{leg-of}
 use Rattle.chart.specs.Grid.{grid-legs}
 use Rattle.chart.specs.GridLaws.{length-grid}
 use Rattle.chart.specs.Lattices.{lattice-legs}
-use Rattle.chart.proofs.RowLegs.{leg-of-plain, numbered-legs, numbered-past}
+use Rattle.chart.proofs.RowLegs.{leg-of-plain, numbered-legs, no-leg-past}
 use Rattle.chart.proofs.Grids.{small-leg, spans-read, ends-read, leg-read}
 use Rattle.chart.proofs.lattice_chart.LatticeChart.leg.Needs as need
 
@@ -13,7 +13,7 @@ pub returns-then-k-self : need.returns-then-k-self
 unfolding lattice-legs
 returns-then-k-self c =
     let l = c .args .self .now in
-    sym (numbered-past (grid-legs (l .rows) (l .columns) (l .top) (l .steps)) (c .args .k) (omega (arith, length-grid (l .rows) (l .columns) (l .top) (l .steps), c .if-k-self .taken)))
+    sym (no-leg-past (grid-legs (l .rows) (l .columns) (l .top) (l .steps)) (c .args .k) (omega (arith, length-grid (l .rows) (l .columns) (l .top) (l .steps), c .if-k-self .taken)))
 
 pub listed : need.listed
 listed c = let l = c .args .self .now in omega (arith, small-leg l (c .args .k) (c .if-k-self .left) .step-small, l .whole)

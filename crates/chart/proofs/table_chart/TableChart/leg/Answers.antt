@@ -4,12 +4,12 @@ use native.Mathlib.Omega.{arith}
 use Rattle.std.specs.declared.option.Option.the-variants.{Some}
 use Rattle.chart.specs.Rows.{leg-of}
 use Rattle.chart.specs.Tables.{table-legs, taken, length-taken, row-taken}
-use Rattle.chart.proofs.RowLegs.{leg-of-plain, numbered-legs, numbered-past}
+use Rattle.chart.proofs.RowLegs.{leg-of-plain, numbered-legs, no-leg-past}
 use Rattle.chart.proofs.table_chart.TableChart.leg.Needs as need
 
 pub returns-then-k-self : need.returns-then-k-self
 unfolding table-legs
-returns-then-k-self c = let t = c .args .self .now in sym (numbered-past (taken t) (c .args .k) (omega (arith, length-taken t, c .if-k-self .taken)))
+returns-then-k-self c = let t = c .args .self .now in sym (no-leg-past (taken t) (c .args .k) (omega (arith, length-taken t, c .if-k-self .taken)))
 
 pub ghost-result : need.ghost-result
 ghost-result c =

@@ -7,7 +7,7 @@ use Rattle.std.proofs.shelf.Lists.{getD-default}
 use Rattle.chart.specs.Legs.{at, no-leg}
 use Rattle.search.specs.Snapshots.{legs-of}
 use Rattle.search.specs.Sound.{snapshot-length, snapshot-at}
-use Rattle.search.proofs.Numbers.{numbered-there, numbered-past}
+use Rattle.chart.proofs.Numbers.{numbered-there, numbered-past}
 use Rattle.search.proofs.questions.SnapshotChart.leg.Needs as need
 
 pub returns-then-k-self : need.returns-then-k-self
