@@ -3,7 +3,9 @@ use mathlib.Core.Path.{_≡_}
 use mathlib.Core.List.{List}
 use Prim.Native.Nat.{ℕ, _<_, _≤_}
 use native.Mathlib.Omega.{arith}
+use mathlib.Core.Logic.{⊎-elim}
 use lib.ListN.{length}
+use Rattle.std.proofs.shelf.Tests.{cases-lt}
 use Rattle.std.specs.declared.option.Option.the-variants.{Some, None}
 use Rattle.std.proofs.shelf.Maps.{nth-getD, nth-past}
 use Rattle.chart.specs.declared.leg.Leg.{Leg}
@@ -22,3 +24,11 @@ numbered-is legs k leg h e = let t = numbered-there legs k h in cc
 
 pub numbered-not : (legs : List Leg) (k : ℕ) → k < length legs → numbered legs k ≡ None → ⊥
 numbered-not legs k h e = let t = numbered-there legs k h in let z : _≡_ {A = ℕ} 0 1 = cc in omega arith
+
+-- a leg that was answered is the leg of its number
+pub numbered-some : (legs : List Leg) (k : ℕ) (leg : Leg) → Some leg ≡ numbered legs k → (k < length legs) × (leg ≡ at legs k)
+numbered-some legs k leg e =
+    ⊎-elim
+    (λ h. (h, numbered-is legs k leg h e))
+    (λ h. let p = numbered-past legs k h in let z : _≡_ {A = ℕ} 0 1 = cc in absurd (omega arith))
+    (cases-lt k (length legs))

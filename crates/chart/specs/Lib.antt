@@ -6,6 +6,8 @@ pub mod Routes
 pub mod Kinds
 pub mod Quickest
 pub mod Best
+pub mod Regret
+pub mod Floors
 pub mod Sizes
 pub mod KindLaws
 pub mod ChartLaws

@@ -1,6 +1,8 @@
-// The built-in task: best totals over the four-fix chart and over a lattice, and what is refused.
+// The built-in task: best totals, regrets, floors and routes over the four-fix chart, best totals over a lattice, and what
+// is refused.
 mod grids;
 mod replies;
+mod routes;
 mod tables;
 
 use std::io;

@@ -14,8 +14,10 @@ fn words(number: u8) -> &'static str {
         4 => "number of fixes or legs outside its limits",
         7 => "a leg's fix is not on the chart, or both are the same",
         8 => "low above high, or a time or level outside its limits",
+        14 => "not a route, or not a chain that leaves the departure",
+        15 => "fewer places of memory than a route can have legs",
         16 => "rows or columns outside their limits, or not one step fewer than columns",
-        25 => "no route",
+        25 => "no route, or none that begins so",
         _ => "refused",
     }
 }

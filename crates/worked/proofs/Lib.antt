@@ -1,2 +1,4 @@
+pub mod Tests
 pub mod FourRoutes
-pub mod FourTotals
+pub mod FourLegs
+pub mod FourAnswers

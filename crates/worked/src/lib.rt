@@ -2,11 +2,12 @@
 use chart::row::Row;
 use chart::row::Standing;
 ghost use mathlib.Core.Path.{_≡_};
-ghost use Rattle.worked.specs.FourFix.{open-row, four-fix-rows, FourFixWorked, SmallLatticeWorked};
+ghost use Rattle.chart.specs.declared.row.Standing.the-variants.{Open};
+ghost use Rattle.worked.specs.FourFix.{row, four-fix-rows, FourFixWorked, FourFixClosed, SmallLatticeWorked};
 
 // An open row.
 fn open(from: u16, to: u16, low: u32, high: u32, top: u16) -> Row
-    ensures { λ r. ⌜ r ≡ open-row from to low high top ⌝ }
+    ensures { λ r. ⌜ r ≡ row from to low high top Open ⌝ }
 {
     Row {
         from,
@@ -22,6 +23,7 @@ fn open(from: u16, to: u16, low: u32, high: u32, top: u16) -> Row
 pub fn four_fix_rows() -> [Row; 5]
     ensures rows { λ r. ⌜ r ≡ four-fix-rows ⌝ }
     ensures worked { λ _. ⌜ FourFixWorked ⌝ }
+    ensures worked_with_closed_legs { λ _. ⌜ FourFixClosed ⌝ }
     ensures small_lattice_worked { λ _. ⌜ SmallLatticeWorked ⌝ }
 {
     [

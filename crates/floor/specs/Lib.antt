@@ -1,0 +1,5 @@
+pub mod Avoid
+pub mod AvoidLaws
+pub mod Onward
+pub mod Braces
+pub mod Answers
