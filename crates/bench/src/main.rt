@@ -1,5 +1,7 @@
 // Times the best total over a lattice of 10 rows and 20 columns, and over a table of 200 fixes and 1,000 legs. Sums of the
 // answers go to standard output, times to standard error.
+#![tactic(auto)]
+
 use chart::charts::Chart;
 use chart::kinds::Quickest;
 use chart::lattice::Lattice;

@@ -1,4 +1,6 @@
 // Legs, charts of legs, the table and the lattice, and the kinds of totals that a route can have.
+#![tactic(auto)]
+
 pub mod charts;
 pub mod checks;
 pub mod choices;

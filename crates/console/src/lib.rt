@@ -1,4 +1,6 @@
 // Commands and their replies: one line each, the same for the same input on every run.
+#![tactic(auto)]
+
 pub mod builtin;
 pub mod carried;
 pub mod commands;

@@ -1,4 +1,6 @@
 // Has the reader of chart files read sound and damaged files, and compares what it answers with what each case expects.
+#![tactic(auto)]
+
 mod cases;
 mod compare;
 mod files;

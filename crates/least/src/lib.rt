@@ -1,4 +1,6 @@
 // The route of least regret between two fixes of a chart, and its regret.
+#![tactic(auto)]
+
 mod explore;
 pub mod found;
 mod hopeless;

@@ -1,4 +1,6 @@
 // Compares regrets, floors and routes of least regret with a separate listing of all routes, on small charts.
+#![tactic(auto)]
+
 mod cases;
 mod chains;
 mod compare;

@@ -1,4 +1,6 @@
 // Reads chart files: the legs into the caller's memory, the names by the numbers of their fixes.
+#![tactic(auto)]
+
 pub mod counts;
 pub mod cursor;
 mod files;

@@ -1,4 +1,6 @@
 // The records of a chart file: marks, bodies, fields and faults, and what a whole file means or owes.
+#![tactic(auto)]
+
 pub mod bytes;
 pub mod faults;
 pub mod fields;

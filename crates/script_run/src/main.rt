@@ -1,4 +1,6 @@
 // The program on a script file.
+#![tactic(auto)]
+
 use console::run::run;
 
 fn main(rt: HostRuntime) -> anyhow::Result<()> {

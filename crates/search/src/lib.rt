@@ -1,4 +1,6 @@
 // The best total of a route, for any kind of total, over a snapshot of any chart.
+#![tactic(auto)]
+
 pub mod best;
 mod mark;
 mod picking;

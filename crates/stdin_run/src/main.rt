@@ -1,4 +1,6 @@
 // The program on the commands of standard input.
+#![tactic(auto)]
+
 use console::run::run;
 
 fn main(rt: HostRuntime) -> anyhow::Result<()> {

@@ -1,4 +1,6 @@
 // A small chart and a small file whose answers were worked out by hand, and what is proved of them from the definitions.
+#![tactic(auto)]
+
 ghost use Rattle.std.specs.Prelude.{◌≡◌};
 ghost use Rattle.chart.specs.declared.row.Standing.TheVariants.{Open};
 ghost use Rattle.worked.specs.FourFix.{row, four_fix_rows, FourFixWorked, FourFixClosed, SmallLatticeWorked};
