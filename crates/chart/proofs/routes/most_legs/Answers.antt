@@ -8,6 +8,6 @@ returns g c =
     let charted = g.C.Chart.charted chart in
     record {
       one_fewer = omega (arith, c.n.ensures, charted.least);
-      routes-are-short = routes_short (g.C.Chart.fixes chart) (g.C.Chart.legs chart) charted;
-      within-limits = charted;
+      routes_are_short = routes_short (g.C.Chart.fixes chart) (g.C.Chart.legs chart) charted;
+      within_limits = charted;
     }

@@ -11,7 +11,7 @@ pub loop-k-preserved : goal.loop-k-preserved
 loop-k-preserved c ks along =
     let s = c.args.snapshot.now in
     let lt : c.loop-k.k < length c.loop-k.marks = omega (arith, c.requires, c.loop-k.auto.marks, (snapshot_charted s).few) in
-    unshut_again (legs_of s) ks c.loop-k.marks c.loop-k.k c.is-shut.result lt (c.loop-k.invariant ks along) (c.is-shut.ensures ks along (omega arith))
+    unshut_again (legs_of s) ks c.loop-k.marks c.loop-k.k c.is_shut.result lt (c.loop-k.invariant ks along) (c.is_shut.ensures ks along (omega arith))
 
 pub returns : goal.returns
 returns c ks along k lt = c.loop-k.invariant ks along k (omega arith)

@@ -5,8 +5,8 @@ use Rattle.floor.proofs.floors.floor.Goals as goal
 
 pub returns : goal.returns
 returns g c = record {
-  answers = answer_carried c.of-snapshot.ensures.same-legs (omega arith) (omega arith) c.args.chain.now c.floor-on.result c.floor-on.ensures;
-  below-every-regret = floor_is_below_every_regret;
-  never-negative = floor_is_never_negative;
+  answers = answer_carried c.of-snapshot.ensures.same_legs (omega arith) (omega arith) c.args.chain.now c.floor_on.result c.floor_on.ensures;
+  below_every_regret = floor_is_below_every_regret;
+  never_negative = floor_is_never_negative;
   unique = floor_is_unique;
 }

@@ -9,8 +9,8 @@ use Rattle.least.proofs.Weighing.{sound_fits}
 use Rattle.least.proofs.Exploring.{depth_small, only_itself, stuck, ready_deeper, swept_deeper, chain_kept, used_kept, turns_start, turns_again, turns_end}
 use Rattle.least.proofs.explore.+explore_explore_leg.Goals as goal
 
-pub explore-slice-bounds-weigh-end : goal.explore-slice-bounds-weigh-end
-explore-slice-bounds-weigh-end t c = let d = depth_small c.requires in omega (arith, c.requires.chains)
+pub explore-slice_bounds-weigh-end : goal.explore-slice_bounds-weigh-end
+explore-slice_bounds-weigh-end t c = let d = depth_small c.requires in omega (arith, c.requires.chains)
 
 pub explore-weigh-requires : goal.explore-weigh-requires
 explore-weigh-requires t c =
@@ -35,44 +35,44 @@ explore-hopeless-requires t c =
     }
 
 pub explore-loop-next-init : goal.explore-loop-next-init
-explore-loop-next-init t c = turns_start c.requires c.first-leg-next.result _ c.first-leg-next.ensures (omega arith)
+explore-loop-next-init t c = turns_start c.requires c.first_leg-next.result _ c.first_leg-next.ensures (omega arith)
 
 pub explore-loop-next-preserved : goal.explore-loop-next-preserved
 explore-loop-next-preserved t c =
-    let leg = c.explore-leg-held.ensures in
-    turns_again c.requires c.loop-next.invariant c.in-Some.k c.in-Some.is c.next-leg-next.result _ c.next-leg-next.ensures (omega arith) c.explore-leg-held.new.chain c.explore-leg-held.new.used _ leg.swept (omega arith) leg.keeps_chain leg.keeps_used
+    let leg = c.explore_leg-held.ensures in
+    turns_again c.requires c.loop-next.invariant c.in-Some.k c.in-Some.is c.next_leg-next.result _ c.next_leg-next.ensures (omega arith) c.explore_leg-held.new.chain c.explore_leg-held.new.used _ leg.swept (omega arith) leg.keeps_chain leg.keeps_used
 
 pub explore-returns : goal.explore-returns
 explore-returns t c =
     let turns = c.loop-next.invariant in
     record {
-      swept = turns_end c.requires turns c.if-here-ends.false c.in-default.is;
+      swept = turns_end c.requires turns c.if-here-ends.false c.in_default.is;
       keeps_chain = turns.keeps_chain;
       keeps_used = turns.keeps_used;
     }
 
-pub explore-leg-returns-in-default : goal.explore-leg-returns-in-default
-explore-leg-returns-in-default t c = record { swept = stuck c.requires c.args.k c.in-default.ensures; keeps_chain = refl; keeps_used = refl }
+pub explore_leg-returns-in_default : goal.explore_leg-returns-in_default
+explore_leg-returns-in_default t c = record { swept = stuck c.requires c.args.k c.in_default.ensures; keeps_chain = refl; keeps_used = refl }
 
-pub explore-leg-offset-bounds-chain-depth : goal.explore-leg-offset-bounds-chain-depth
-explore-leg-offset-bounds-chain-depth t c = let d = depth_small c.requires in search rules
+pub explore_leg-offset_bounds-chain-depth : goal.explore_leg-offset_bounds-chain-depth
+explore_leg-offset_bounds-chain-depth t c = let d = depth_small c.requires in search rules
 
-pub explore-leg-bounds-chain-depth : goal.explore-leg-bounds-chain-depth
-explore-leg-bounds-chain-depth t c = let d = depth_small c.requires in omega (arith, c.requires.chains)
+pub explore_leg-bounds-chain-depth : goal.explore_leg-bounds-chain-depth
+explore_leg-bounds-chain-depth t c = let d = depth_small c.requires in omega (arith, c.requires.chains)
 
-pub explore-leg-overflow-add-depth : goal.explore-leg-overflow-add-depth
-explore-leg-overflow-add-depth t c = let d = depth_small c.requires in search rules
+pub explore_leg-overflow_add-depth : goal.explore_leg-overflow_add-depth
+explore_leg-overflow_add-depth t c = let d = depth_small c.requires in search rules
 
-pub explore-leg-explore-held-requires : goal.explore-leg-explore-held-requires
-explore-leg-explore-held-requires t c =
+pub explore_leg-explore-held-requires : goal.explore_leg-explore-held-requires
+explore_leg-explore-held-requires t c =
     let d = depth_small c.requires in
     let s = c.args.snapshot.now in
     let st = c.in-Some.ensures in
     let known = step_known (legs_of s) (snapshot_charted s) c.args.here c.args.used.now c.args.k c.in-Some.leg st.0 st.1 in
     (omega arith, ready_deeper c.requires c.args.k c.in-Some.leg.to (ap (λ (l : Leg). l.to) st.0) known.to_small st.1)
 
-pub explore-leg-returns : goal.explore-leg-returns
-explore-leg-returns t c =
+pub explore_leg-returns : goal.explore_leg-returns
+explore_leg-returns t c =
     let k = c.args.k in
     let s = c.args.snapshot.now in
     let st = c.in-Some.ensures in

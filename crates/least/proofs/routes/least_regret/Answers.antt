@@ -8,21 +8,21 @@ use Rattle.least.proofs.routes.least_regret.Goals as goal
 pub returns-then-memory-n : goal.returns-then-memory-n
 returns-then-memory-n g c = record { answers = (omega (arith, c.if-memory-n.true, c.n.ensures), refl); unique = least_regret_is_unique }
 
-pub returns-in-default : goal.returns-in-default
-returns-in-default g c = record {
+pub returns-in_default : goal.returns-in_default
+returns-in_default g c = record {
   answers = (
     omega (arith, c.if-memory-n.false, c.n.ensures),
-    subst (λ legs. Least (trip legs c.args.departure c.args.destination) None c.find.new.best) c.of-snapshot.ensures.same-legs c.in-default.ensures,
+    subst (λ legs. Least (trip legs c.args.departure c.args.destination) None c.find.new.best) c.of-snapshot.ensures.same_legs c.in_default.ensures,
     refl,
   );
   unique = least_regret_is_unique;
 }
 
-pub copy-front-requires : goal.copy-front-requires
-copy-front-requires g c =
+pub copy_front-requires : goal.copy_front-requires
+copy_front-requires g c =
     let found = c.in-Some.found in
     let best = c.find.new.best in
-    let fits = found_fits (g.C.Chart.charted c.args.chart.now) c.of-snapshot.ensures.same-legs c.args.departure c.args.destination found best c.in-Some.ensures c.args.memory.now (omega (arith, c.if-memory-n.false, c.n.ensures)) in
+    let fits = found_fits (g.C.Chart.charted c.args.chart.now) c.of-snapshot.ensures.same_legs c.args.departure c.args.destination found best c.in-Some.ensures c.args.memory.now (omega (arith, c.if-memory-n.false, c.n.ensures)) in
     omega (arith, length-take (found.legs - 0) best)
 
 pub returns : goal.returns
@@ -30,10 +30,10 @@ returns g c =
     let found = c.in-Some.found in
     let best = c.find.new.best in
     let memory = c.args.memory.now in
-    let memory' = c.copy-front.new.into in
+    let memory' = c.copy_front.new.into in
     let whole : found.legs - 0 ≡ found.legs = omega arith in
     record {
-      answers = found_written (g.C.Chart.charted c.args.chart.now) c.of-snapshot.ensures.same-legs c.args.departure c.args.destination found best c.in-Some.ensures memory (omega (arith, c.if-memory-n.false, c.n.ensures)) memory'
-          (subst (λ n. memory' ≡ take n best ++ drop (length (take n best)) memory) whole c.copy-front.ensures);
+      answers = found_written (g.C.Chart.charted c.args.chart.now) c.of-snapshot.ensures.same_legs c.args.departure c.args.destination found best c.in-Some.ensures memory (omega (arith, c.if-memory-n.false, c.n.ensures)) memory'
+          (subst (λ n. memory' ≡ take n best ++ drop (length (take n best)) memory) whole c.copy_front.ensures);
       unique = least_regret_is_unique;
     }

@@ -5,6 +5,6 @@ use Rattle.regret.proofs.regrets.regret.Goals as goal
 pub returns : goal.returns
 returns g c = record {
   answers = search rules;
-  worst-choice = worst_choice_gives_regret;
+  worst_choice = worst_choice_gives_regret;
   unique = regret_is_unique;
 }

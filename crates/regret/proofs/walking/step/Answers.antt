@@ -5,8 +5,8 @@ use Rattle.chart.proofs.Numbers.{numbered_some, numbered_not}
 use Rattle.regret.proofs.Walks.{true_false, read_steps}
 use Rattle.regret.proofs.walking.step.Goals as goal
 
-pub returns-in-default : goal.returns-in-default
-returns-in-default c st = numbered_not (legs_of c.args.snapshot.now) c.args.k st.leaves.there (sym c.in-default.ensures)
+pub returns-in_default : goal.returns-in_default
+returns-in_default c st = numbered_not (legs_of c.args.snapshot.now) c.args.k st.leaves.there (sym c.in_default.ensures)
 
 pub returns-then-leg-here : goal.returns-then-leg-here
 returns-then-leg-here c st =
@@ -21,15 +21,15 @@ returns-in-Closed c st =
     let z : ◌≡◌ {A = ℕ} 0 1 = cc in
     omega arith
 
-pub returns-then-is-marked : goal.returns-then-is-marked
-returns-then-is-marked c st =
+pub returns-then-is_marked : goal.returns-then-is_marked
+returns-then-is_marked c st =
     let leg = numbered_some (legs_of c.args.snapshot.now) c.args.k c.in-Some.leg c.in-Some.ensures in
-    true_false _ (sym c.if-is-marked.ensures) (ap (λ (l : Leg). get_or c.args.used.now l.to false) leg.1 ∙ st.fresh)
+    true_false _ (sym c.if-is_marked.ensures) (ap (λ (l : Leg). get_or c.args.used.now l.to false) leg.1 ∙ st.fresh)
 
 pub returns : goal.returns
 returns c =
     let legs = legs_of c.args.snapshot.now in
     let leg = numbered_some legs c.args.k c.in-Some.leg c.in-Some.ensures in (
       leg.1,
-      read_steps legs c.args.here c.args.used.now c.args.k c.in-Some.leg leg.0 leg.1 c.if-leg-here.false c.in-default-standing.is (sym c.if-is-marked.ensures),
+      read_steps legs c.args.here c.args.used.now c.args.k c.in-Some.leg leg.0 leg.1 c.if-leg-here.false c.in_default-standing.is (sym c.if-is_marked.ensures),
     )

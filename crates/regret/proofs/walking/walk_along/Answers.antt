@@ -11,9 +11,9 @@ loop-k-init c =
     let s = c.args.snapshot.now in
     along_start (legs_of s) c.args.from c.args.used.now c.args.marks.now (omega (arith, c.requires.fix, (snapshot_charted s).most)) c.requires.blank.0 c.requires.blank.1
 
-pub returns-in-default : goal.returns-in-default
-returns-in-default c =
-    walks_stuck (legs_of c.args.snapshot.now) c.args.from c.args.list.now c.loop-k.k-index c.loop-k.end c.loop-k.used c.loop-k.invariant.walk c.loop-k-test.true c.in-default.ensures
+pub returns-in_default : goal.returns-in_default
+returns-in_default c =
+    walks_stuck (legs_of c.args.snapshot.now) c.args.from c.args.list.now c.loop-k.k-index c.loop-k.end c.loop-k.used c.loop-k.invariant.walk c.loop-k-test.true c.in_default.ensures
 
 pub bounds-used-leg : goal.bounds-used-leg
 bounds-used-leg c =
@@ -29,8 +29,8 @@ bounds-marks-k c =
     let known = step_known (legs_of s) (snapshot_charted s) c.loop-k.end c.loop-k.used (get_or c.args.list.now c.loop-k.k-index 0) c.in-Some.leg st.0 st.1 in
     omega (arith, known.number_small, c.loop-k.invariant.markeds)
 
-pub overflow-add-high : goal.overflow-add-high
-overflow-add-high c =
+pub overflow_add-high : goal.overflow_add-high
+overflow_add-high c =
     let s = c.args.snapshot.now in
     let small = high_small (legs_of s) (snapshot_charted s) c.args.from (take c.loop-k.k-index c.args.list.now) c.loop-k.end c.loop-k.high c.loop-k.used c.loop-k.marks c.requires.fix c.loop-k.invariant in
     omega (arith, c.in-Some.leg.bounded)

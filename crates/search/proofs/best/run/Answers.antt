@@ -23,14 +23,14 @@ pub returns-in-Blank : goal.returns-in-Blank
 returns-in-Blank g c =
     let kind = c.args.kind.now in
     let q = over (g.K.Kind.rule kind) c.args.snapshot.now c.args.departure in
-    no_route_to_blank q (g.K.Kind.laws kind) c.loop-u.label c.loop-u.mark c.loop-u.invariant c.in-default.ensures c.args.destination (search rules)
+    no_route_to_blank q (g.K.Kind.laws kind) c.loop-u.label c.loop-u.mark c.loop-u.invariant c.in_default.ensures c.args.destination (search rules)
 
-pub returns-in-default-mark : goal.returns-in-default-mark
-returns-in-default-mark g c =
+pub returns-in_default-mark : goal.returns-in_default-mark
+returns-in_default-mark g c =
     let kind = c.args.kind.now in
     let s = c.args.snapshot.now in
     let q = over (g.K.Kind.rule kind) s c.args.departure in
     let small : c.args.destination < length c.loop-u.label = omega (arith, s.most, c.requires.ends.1, c.loop-u.invariant.labels) in
     let e = get_or_read c.loop-u.label c.args.destination c.index-label-destination.result small c.index-label-destination.is q.rule.start in
     subst (λ x. Best q.rule q.legs q.departure c.args.destination x) (sym e)
-    (label_is_best q (g.K.Kind.laws kind) c.loop-u.label c.loop-u.mark c.loop-u.invariant c.in-default.ensures c.args.destination (search rules) c.requires.ends.2)
+    (label_is_best q (g.K.Kind.laws kind) c.loop-u.label c.loop-u.mark c.loop-u.invariant c.in_default.ensures c.args.destination (search rules) c.requires.ends.2)

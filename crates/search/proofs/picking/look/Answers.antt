@@ -5,15 +5,15 @@ use Rattle.search.specs.Labels.{label_at, Picked}
 use Rattle.search.proofs.Choosing.{pick_first, pick_takes, pick_keeps, found_some, found_none}
 use Rattle.search.proofs.picking.look.Goals as goal
 
-pub returns-then-best-ge-MAX-FIXES : goal.returns-then-best-ge-MAX-FIXES
-returns-then-best-ge-MAX-FIXES g c =
+pub returns-then-best-ge-MAX_FIXES : goal.returns-then-best-ge-MAX_FIXES
+returns-then-best-ge-MAX_FIXES g c =
     let r = g.K.Kind.rule c.args.kind.now in
     let laws = g.K.Kind.laws c.args.kind.now in
     let label = c.args.label.now in
     let mark = c.args.mark.now in
     let v = c.args.v in
     let P = Picked r label mark in
-    let h = subst (P v) (found_none c.args.best c.if-best-ge-MAX-FIXES.true) c.requires.before in
+    let h = subst (P v) (found_none c.args.best c.if-best-ge-MAX_FIXES.true) c.requires.before in
     subst (P (v + 1)) (sym (found_some v c.requires.sizes.2)) (pick_first r laws label mark v h (search rules))
 
 pub returns-then-better : goal.returns-then-better
@@ -25,7 +25,7 @@ returns-then-better g c =
     let v = c.args.v in
     let u = c.args.best in
     let P = Picked r label mark in
-    let small : u < max_fixes = c.if-best-ge-MAX-FIXES.false in
+    let small : u < max_fixes = c.if-best-ge-MAX_FIXES.false in
     let h = subst (P v) (found_some u small) c.requires.before in
     let lv : v < length label = omega arith in
     let lu : u < length label = omega arith in
@@ -43,7 +43,7 @@ returns-else-better g c =
     let v = c.args.v in
     let u = c.args.best in
     let P = Picked r label mark in
-    let small : u < max_fixes = c.if-best-ge-MAX-FIXES.false in
+    let small : u < max_fixes = c.if-best-ge-MAX_FIXES.false in
     let h = subst (P v) (found_some u small) c.requires.before in
     let lv : v < length label = omega arith in
     let lu : u < length label = omega arith in

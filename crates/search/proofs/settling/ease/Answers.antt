@@ -12,7 +12,7 @@ use Rattle.search.proofs.settling.ease.Goals as goal
 pub returns-in-Closed : goal.returns-in-Closed
 returns-in-Closed g c =
     let kind = c.args.kind.now in
-    let closed = sym (ap (λ (l : Leg). l.standing) c.leg-at-leg.ensures) ∙ c.in-Closed.is in
+    let closed = sym (ap (λ (l : Leg). l.standing) c.leg_at-leg.ensures) ∙ c.in-Closed.is in
     record {
       turn = λ departure turn. turn_passes_closed (over (g.K.Kind.rule kind) c.args.snapshot.now departure) (g.K.Kind.laws kind) c.args.label.now c.args.mark.now c.args.u c.args.j turn closed;
       count = refl;
@@ -21,15 +21,15 @@ returns-in-Closed g c =
 pub bounds : goal.bounds
 bounds g c =
     let s = c.args.snapshot.now in
-    let e = ap (λ (l : Leg). l.to) c.leg-at-leg.ensures in
+    let e = ap (λ (l : Leg). l.to) c.leg_at-leg.ensures in
     omega (arith, (snapshot_charted s).enters c.args.j c.requires.leg.0, (snapshot_charted s).most, c.requires.turn.1.state.marks)
 
 pub returns-in-Settled : goal.returns-in-Settled
 returns-in-Settled g c =
     let kind = c.args.kind.now in
     let mark = c.args.mark.now in
-    let settled : Done mark c.leg-at-leg.result.to = search rules in
-    let there = subst (λ (l : Leg). Done mark l.to) c.leg-at-leg.ensures settled in
+    let settled : Done mark c.leg_at-leg.result.to = search rules in
+    let there = subst (λ (l : Leg). Done mark l.to) c.leg_at-leg.ensures settled in
     record {
       turn = λ departure turn. turn_passes_settled (over (g.K.Kind.rule kind) c.args.snapshot.now departure) (g.K.Kind.laws kind) c.args.label.now mark c.args.u c.args.j turn there;
       count = refl;
@@ -50,18 +50,18 @@ add-total-requires g c =
     let mark = c.args.mark.now in
     let turn = c.requires.turn.1 in
     let q = over (g.K.Kind.rule kind) s c.requires.turn.0 in
-    let e = ap (λ (l : Leg). l.to) c.leg-at-leg.ensures in
-    let small : c.leg-at-leg.result.to < max_fixes = omega (arith, (snapshot_charted s).enters c.args.j c.requires.leg.0, (snapshot_charted s).most) in
-    let undone : (Done mark c.leg-at-leg.result.to → ⊥) = search rules in
+    let e = ap (λ (l : Leg). l.to) c.leg_at-leg.ensures in
+    let small : c.leg_at-leg.result.to < max_fixes = omega (arith, (snapshot_charted s).enters c.args.j c.requires.leg.0, (snapshot_charted s).most) in
+    let undone : (Done mark c.leg_at-leg.result.to → ⊥) = search rules in
     let eu = read_u q (g.K.Kind.laws kind) c.args.label.now mark c.args.u c.args.j turn c.index-label-u.result c.index-label-u.is in
-    rw eu (few_legs q (g.K.Kind.laws kind) c.args.label.now mark c.args.u c.args.j turn c.leg-at-leg.result.to small undone)
+    rw eu (few_legs q (g.K.Kind.laws kind) c.args.label.now mark c.args.u c.args.j turn c.leg_at-leg.result.to small undone)
 
 pub offer-requires : goal.offer-requires
 offer-requires g c =
     let s = c.args.snapshot.now in
     let state = c.requires.turn.1.state in
-    let e = ap (λ (l : Leg). l.to) c.leg-at-leg.ensures in
-    let small : c.leg-at-leg.result.to < max_fixes = omega (arith, (snapshot_charted s).enters c.args.j c.requires.leg.0, (snapshot_charted s).most) in
+    let e = ap (λ (l : Leg). l.to) c.leg_at-leg.ensures in
+    let small : c.leg_at-leg.result.to < max_fixes = omega (arith, (snapshot_charted s).enters c.args.j c.requires.leg.0, (snapshot_charted s).most) in
     record { sizes = (state.labels, state.marks, small); undone = search rules }
 
 pub returns : goal.returns
@@ -74,13 +74,13 @@ returns g c =
     let j = c.args.j in
     let rule = g.K.Kind.rule kind in
     let laws = g.K.Kind.laws kind in
-    let leg = c.leg-at-leg.result in
-    let is = c.leg-at-leg.ensures in
+    let leg = c.leg_at-leg.result in
+    let is = c.leg_at-leg.ensures in
     let undone : (Done mark leg.to → ⊥) = search rules in
     let eu = read_u (over rule s c.requires.turn.0) laws label mark u j c.requires.turn.1 c.index-label-u.result c.index-label-u.is in
     let total = c.add-total.ensures ∙ ap (λ a. rule.add a j leg) eu ∙ ap (λ l. rule.add (label_at rule label u) j l) is in
     let offered = subst₂ (λ w a. Offered rule label mark w a c.offer.new.label c.offer.new.mark) (ap (λ (l : Leg). l.to) is) total c.offer.ensures in
-    let leaves : Leaves (legs_of s) u j = record { there = c.requires.leg.0; stands = sym (ap (λ (l : Leg). l.standing) is) ∙ c.in-default.is; from = c.requires.leg.1 } in
+    let leaves : Leaves (legs_of s) u j = record { there = c.requires.leg.0; stands = sym (ap (λ (l : Leg). l.standing) is) ∙ c.in_default.is; from = c.requires.leg.1 } in
     let away = subst (λ (l : Leg). Done mark l.to → ⊥) is undone in
     record {
       turn = λ departure turn. (turn_offered (over rule s departure) laws label mark u j turn (snapshot_charted s) leaves away c.offer.new.label c.offer.new.mark offered).0;

@@ -4,8 +4,8 @@ use Rattle.search.proofs.Marks.{done_more, known_small, reached_blank, reached_s
 use Rattle.search.proofs.Turns.{turn_begins, turn_ends}
 use Rattle.search.proofs.settling.settle.Goals as goal
 
-pub ease-legs-requires : goal.ease-legs-requires
-ease-legs-requires g c =
+pub ease_legs-requires : goal.ease_legs-requires
+ease_legs-requires g c =
     let kind = c.args.kind.now in
     let departure = c.requires.rest.0 in
     let q = over (g.K.Kind.rule kind) c.args.snapshot.now departure in
@@ -21,6 +21,6 @@ returns g c =
       rest = λ departure rest.
           let q = over (g.K.Kind.rule kind) c.args.snapshot.now departure in
           let turn = turn_begins q (g.K.Kind.laws kind) c.args.label.now mark rest u c.requires.pick in
-          turn_ends q c.ease-legs.new.label c.ease-legs.new.mark u (c.ease-legs.ensures.turn departure turn);
-      count = c.ease-legs.ensures.count ∙ done_more mark u (known_small mark u (reached_blank _ reached)) (reached_settled _ reached);
+          turn_ends q c.ease_legs.new.label c.ease_legs.new.mark u (c.ease_legs.ensures.turn departure turn);
+      count = c.ease_legs.ensures.count ∙ done_more mark u (known_small mark u (reached_blank _ reached)) (reached_settled _ reached);
     }

@@ -10,5 +10,5 @@ returns-in-Some g c =
     let is = numbered_is legs c.args.k c.in-Some.leg c.requires.1 c.in-Some.ensures in
     copied_more legs c.args.row.now c.args.k c.in-Some.leg (g.C.Chart.charted chart).few c.requires.1 is c.requires.0
 
-pub returns-in-default : goal.returns-in-default
-returns-in-default g c = absurd (numbered_not (g.C.Chart.legs c.args.chart.now) c.args.k c.requires.1 (sym c.in-default.ensures))
+pub returns-in_default : goal.returns-in_default
+returns-in_default g c = absurd (numbered_not (g.C.Chart.legs c.args.chart.now) c.args.k c.requires.1 (sym c.in_default.ensures))

@@ -2,11 +2,11 @@ use Rattle.std.proofs.Common.{arith}
 use Rattle.chart.proofs.Sums.{flown_seconds_small, flown_legs}
 use Rattle.chart.proofs.kinds.QuickestKind.add.Goals as goal
 
-pub overflow-add-result : goal.overflow-add-result
-overflow-add-result c =
+pub overflow_add-result : goal.overflow_add-result
+overflow_add-result c =
     let few = c.requires in
     let small = flown_seconds_small few.0 c.args.total few.1 in
     omega (arith, few.2, c.args.leg.now.bounded)
 
-pub overflow-add-result-2 : goal.overflow-add-result-2
-overflow-add-result-2 c = let few = c.requires in omega (arith, few.2, flown_legs few.0 c.args.total few.1)
+pub overflow_add-result-2 : goal.overflow_add-result-2
+overflow_add-result-2 c = let few = c.requires in omega (arith, few.2, flown_legs few.0 c.args.total few.1)

@@ -2,8 +2,8 @@ use Rattle.std.proofs.Common.{arith}
 use Rattle.chart.proofs.Sums.{seconds_small}
 use Rattle.chart.proofs.kinds.SecondsKind.add.Goals as goal
 
-pub overflow-add-result : goal.overflow-add-result
-overflow-add-result g c =
+pub overflow_add-result : goal.overflow_add-result
+overflow_add-result g c =
     let choice = c.args.self.now.choice in
     let leg = c.args.leg.now in
     let few = c.requires in

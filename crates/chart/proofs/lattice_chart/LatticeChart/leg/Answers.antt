@@ -19,28 +19,28 @@ listed c = let l = c.args.self.now in omega (arith, (small_leg l c.args.k c.if-k
 pub bounds-self-s : goal.bounds-self-s
 bounds-self-s c = let l = c.args.self.now in (small_leg l c.args.k c.if-k-self.false).step_small
 
-pub overflow-mul-result : goal.overflow-mul-result
-overflow-mul-result c = let b = small_leg c.args.self.now c.args.k c.if-k-self.false in omega (arith, b.from_small)
+pub overflow_mul-result : goal.overflow_mul-result
+overflow_mul-result c = let b = small_leg c.args.self.now c.args.k c.if-k-self.false in omega (arith, b.from_small)
 
-pub overflow-add-result : goal.overflow-add-result
-overflow-add-result c = let b = small_leg c.args.self.now c.args.k c.if-k-self.false in omega (arith, b.from_small)
+pub overflow_add-result : goal.overflow_add-result
+overflow_add-result c = let b = small_leg c.args.self.now c.args.k c.if-k-self.false in omega (arith, b.from_small)
 
-pub overflow-mul-result-2 : goal.overflow-mul-result-2
-overflow-mul-result-2 c = let b = small_leg c.args.self.now c.args.k c.if-k-self.false in omega (arith, b.to_small)
+pub overflow_mul-result-2 : goal.overflow_mul-result-2
+overflow_mul-result-2 c = let b = small_leg c.args.self.now c.args.k c.if-k-self.false in omega (arith, b.to_small)
 
-pub overflow-add-result-3 : goal.overflow-add-result-3
-overflow-add-result-3 c = let b = small_leg c.args.self.now c.args.k c.if-k-self.false in omega (arith, b.to_small)
+pub overflow_add-result-3 : goal.overflow_add-result-3
+overflow_add-result-3 c = let b = small_leg c.args.self.now c.args.k c.if-k-self.false in omega (arith, b.to_small)
 
-pub overflow-add-result-4 : goal.overflow-add-result-4
-overflow-add-result-4 c = let b = small_leg c.args.self.now c.args.k c.if-k-self.false in omega (arith, b.to_small)
+pub overflow_add-result-4 : goal.overflow_add-result-4
+overflow_add-result-4 c = let b = small_leg c.args.self.now c.args.k c.if-k-self.false in omega (arith, b.to_small)
 
-pub invariant-of-result : goal.invariant-of-result
-invariant-of-result c =
+pub invariant_of-result : goal.invariant_of-result
+invariant_of-result c =
     let l = c.args.self.now in
     let h = c.if-k-self.false in
     let spans = spans_read l c.args.k c.index-self-s.result h in
     let ends = ends_read l c.args.k c.index-self-s.result h in
-    ((λ e. omega (arith, ends.0, ends.1)), (spans.ordered, (spans.bounded, (l.level, tt))))
+    record { apart = λ e. omega (arith, ends.0, ends.1); ordered = spans.ordered; bounded = spans.bounded; level = l.level }
 
 pub returns : goal.returns
 unfolding lattice_legs

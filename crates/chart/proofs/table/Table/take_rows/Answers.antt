@@ -6,5 +6,5 @@ use Rattle.chart.proofs.table.Table.take_rows.Goals as goal
 pub returns : goal.returns
 unfolding table_legs
 returns c =
-    let ok = c.in-ok-count.ensures in
-    record { over = refl; takes-exactly-its-rows = (refl, taken_back c.args.n c.in-ok-count.count c.args.self.now.rows.now ok.0 ok.2) }
+    let ok = c.in_ok-count.ensures in
+    record { over = refl; takes_exactly_its_rows = (refl, taken_back c.args.n c.in_ok-count.count c.args.self.now.rows.now ok.0 ok.2) }

@@ -8,12 +8,12 @@ pub returns-then-k-self : goal.returns-then-k-self
 unfolding table_legs
 returns-then-k-self c = let t = c.args.self.now in sym (no_leg_past (taken t) c.args.k (omega (arith, length_taken t, c.if-k-self.true)))
 
-pub invariant-of-result : goal.invariant-of-result
-invariant-of-result c =
+pub invariant_of-result : goal.invariant_of-result
+invariant_of-result c =
     let t = c.args.self.now in
     let k = c.args.k in
     let h : k < t.count = omega (arith, c.if-k-self.false) in
-    (t.apart k h, (t.ordered k h, (t.bounded k h, (t.level k h, tt))))
+    record { apart = t.apart k h; ordered = t.ordered k h; bounded = t.bounded k h; level = t.level k h }
 
 pub returns : goal.returns
 unfolding table_legs

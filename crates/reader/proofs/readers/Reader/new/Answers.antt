@@ -4,4 +4,4 @@ use Rattle.reader.proofs.readers.Reader.new.Goals as goal
 
 pub returns : goal.returns
 unfolding names_of
-returns c = record { over = refl; at-its-beginning = omega arith; without-names = refl }
+returns c = record { over = refl; at_its_beginning = omega arith; without_names = refl }

@@ -8,31 +8,31 @@ use Rattle.reader.proofs.NamesAt.{fix_within}
 use Rattle.reader.proofs.Stages.{legs_length}
 use Rattle.reader.proofs.readers.Reader.read_file.Goals as goal
 
-pub returns-in-err-found : goal.returns-in-err-found
-returns-in-err-found c =
-    let h = c.in-err-found.ensures in
-    let p = err_from_is_err_and c.from-residual.result c.from-residual.ensures.1 in
+pub returns-in_err-found : goal.returns-in_err-found
+returns-in_err-found c =
+    let h = c.in_err-found.ensures in
+    let p = err_from_is_err_and c.from_residual.result c.from_residual.ensures.1 in
     record {
-      same-file = refl;
-      reads-the-chart-or-tells-the-fault = rw (p.1, p.2) (h.0, h.1, refl, refl);
-      one-verdict = sole _ _;
+      same_file = refl;
+      reads_the_chart_or_tells_the_fault = rw (p.1, p.2) (h.0, h.1, refl, refl);
+      one_verdict = sole _ _;
     }
 
-pub invariant-of-self-2 : goal.invariant-of-self-2
-invariant-of-self-2 c =
-    let h = c.in-ok-found.ensures.0 in
-    (c.check-file.auto.starts ∙ length-replicate {A = ℕ} 200 0, (h.most, ((λ i b. fix_within c.args.self.now.file.now (get_or c.check-file.new.starts i 0) (h.stand i b)), (h.indexed, tt))))
+pub invariant_of-self-2 : goal.invariant_of-self-2
+invariant_of-self-2 c =
+    let h = c.in_ok-found.ensures.0 in
+    (c.check_file.auto.starts ∙ length-replicate {A = ℕ} 200 0, (h.most, ((λ i b. fix_within c.args.self.now.file.now (get_or c.check_file.new.starts i 0) (h.stand i b)), (h.indexed, tt))))
 
 pub returns : goal.returns
 unfolding names_of
 returns c =
-    let h = c.in-ok-found.ensures in
+    let h = c.in_ok-found.ensures in
     let file = c.args.self.now.file.now in
-    let legs = legs_at file c.in-ok-found.found.base c.in-ok-found.found.counts.legs in
-    let count = legs_length file c.in-ok-found.found.base c.in-ok-found.found.counts.legs in
+    let legs = legs_at file c.in_ok-found.found.base c.in_ok-found.found.counts.legs in
+    let count = legs_length file c.in_ok-found.found.base c.in_ok-found.found.counts.legs in
     record {
-      same-file = refl;
-      reads-the-chart-or-tells-the-fault = record {
+      same_file = refl;
+      reads_the_chart_or_tells_the_fault = record {
         legs = legs;
         means = h.0.means;
         fixes = omega (arith, h.0.whole);
@@ -41,5 +41,5 @@ returns c =
         filled = c.fill.ensures ∙ ap (λ k. legs ++ drop k c.args.memory.now) (sym count);
         place = h.1;
       };
-      one-verdict = sole _ _;
+      one_verdict = sole _ _;
     }

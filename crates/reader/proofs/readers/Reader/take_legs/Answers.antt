@@ -11,10 +11,10 @@ unfolding names_of
 returns c =
     let r = c.args.self.now in
     let rows = c.args.table.now.rows.now in
-    let after = c.take-rows.new.self in
+    let after = c.take_rows.new.self in
     let counted = names_counted r.file.now r.index.starts r.index.fixes (omega (arith, r.most, r.long)) in
     record {
-      over = c.take-rows.ensures.over;
-      takes-exactly-its-rows = taken_with_their_fixes (names_of r) rows _ c.take-rows.result (λ n. (after.fixes ≡ n) × (map plain (table_legs after) ≡ rows)) (λ _. after ≡ c.args.table.now) (omega (arith, counted)) c.take-rows.ensures.takes-exactly-its-rows;
-      takes-the-legs-of-the-file = always_taken (names_of r) rows _ c.take-rows.result (λ n. (after.fixes ≡ n) × (map plain (table_legs after) ≡ rows)) (λ _. after ≡ c.args.table.now) (omega (arith, counted)) c.take-rows.ensures.takes-exactly-its-rows r.file.now;
+      over = c.take_rows.ensures.over;
+      takes_exactly_its_rows = taken_with_their_fixes (names_of r) rows _ c.take_rows.result (λ n. (after.fixes ≡ n) × (map plain (table_legs after) ≡ rows)) (λ _. after ≡ c.args.table.now) (omega (arith, counted)) c.take_rows.ensures.takes_exactly_its_rows;
+      takes_the_legs_of_the_file = always_taken (names_of r) rows _ c.take_rows.result (λ n. (after.fixes ≡ n) × (map plain (table_legs after) ≡ rows)) (λ _. after ≡ c.args.table.now) (omega (arith, counted)) c.take_rows.ensures.takes_exactly_its_rows r.file.now;
     }

@@ -7,27 +7,27 @@ use Rattle.search.specs.Snapshots.{legs_of}
 use Rattle.search.proofs.Linking.{fair_copied, copied_all, lowest_first}
 use Rattle.search.proofs.snapshot.Snapshot.of.Goals as goal
 
-pub link-legs-requires : goal.link-legs-requires
-link-legs-requires g c =
+pub link_legs-requires : goal.link_legs-requires
+link_legs-requires g c =
     let chart = c.args.chart.now in
     record {
-      fair = fair_copied (g.C.Chart.legs chart) c.copy-legs.new.row (g.C.Chart.fixes chart) c.m-count.result (g.C.Chart.charted chart) c.m-count.ensures c.copy-legs.ensures;
+      fair = fair_copied (g.C.Chart.legs chart) c.copy_legs.new.row (g.C.Chart.fixes chart) c.m-count.result (g.C.Chart.charted chart) c.m-count.ensures c.copy_legs.ensures;
       none = (refl, length-replicate {A = ℕ} max_legs max_legs);
     }
 
-pub invariant-of-result : goal.invariant-of-result
-invariant-of-result g c =
+pub invariant_of-result : goal.invariant_of-result
+invariant_of-result g c =
     let chart = c.args.chart.now in
     let legs = g.C.Chart.legs chart in
-    let row = c.copy-legs.new.row in
+    let row = c.copy_legs.new.row in
     let charted = g.C.Chart.charted chart in
     let em = c.m-count.ensures in
     let en = c.n-fixes.ensures in
-    let same = c.copy-legs.ensures.same in
-    let l = c.link-legs.ensures in
+    let same = c.copy_legs.ensures.same in
+    let l = c.link_legs.ensures in
     let few = charted.few in
-    let fair = fair_copied legs row (g.C.Chart.fixes chart) c.m-count.result charted em c.copy-legs.ensures in (
-      c.copy-legs.ensures.whole,
+    let fair = fair_copied legs row (g.C.Chart.fixes chart) c.m-count.result charted em c.copy_legs.ensures in (
+      c.copy_legs.ensures.whole,
       (
         l.heads,
         (
@@ -69,8 +69,8 @@ unfolding legs_of
 returns g c =
     let chart = c.args.chart.now in
     let legs = g.C.Chart.legs chart in
-    let row = c.copy-legs.new.row in
+    let row = c.copy_legs.new.row in
     record {
-      same-fixes = c.n-fixes.ensures;
-      same-legs = ap (λ n. take n row) c.m-count.ensures ∙ copied_all legs row (g.C.Chart.charted chart).few c.copy-legs.ensures;
+      same_fixes = c.n-fixes.ensures;
+      same_legs = ap (λ n. take n row) c.m-count.ensures ∙ copied_all legs row (g.C.Chart.charted chart).few c.copy_legs.ensures;
     }
