@@ -1,11 +1,11 @@
 -- A chain that meets no fix twice has fewer legs than there are fixes.
-use Rattle.std.proofs.Common.{◌≡◌, ℕ, ◌+◌, ◌<◌, ◌≤◌, Bool, true, false, cond, ◌⊎◌, List, [], ◌∷◌, length, get_or, set, replicate, count_by, refl, ap, ◌∙◌, subst, inl, inr, ⊎_elim, arith, length-set}
+use Rattle.std.proofs.Common.{◌≡◌, ℕ, ◌+◌, ◌<◌, ◌≤◌, Bool, true, false, cond, List, [], ◌∷◌, length, get_or, set, replicate, count_by, refl, ap, ◌∙◌, subst, inl, inr, ⊎_elim, arith, length-set}
 use Rattle.std.proofs.lemmas.List.{get_or-set_other, get_or-replicate, length-replicate}
 use Rattle.std.proofs.lemmas.List.Sums.{sum_by-set, count_by-le-length}
 use Rattle.chart.specs.declared.leg.Leg.{Leg}
 use Rattle.chart.specs.Legs.{at, Charted}
 use Rattle.chart.proofs.Within.{route_leaves_fix}
-use Rattle.chart.specs.Routes.{Leads, entered, met, In, Once, Chain, Route, RoutesAreShort}
+use Rattle.chart.specs.Routes.{Leads, entered, met, In, Once, Chain, RoutesAreShort}
 
 -- each number sets a flag of its own
 flags_suffice : (xs : List ℕ) (flags : List Bool) → Once xs → ((x : ℕ) → In x xs → (x < length flags) × (get_or flags x false ≡ false)) → length xs + count_by (λ b. b) flags ≤ length flags

@@ -1,6 +1,5 @@
 -- Totals made of few legs stay small.
-use Rattle.std.proofs.Common.{◌≡◌, ℕ, ◌+◌, ◌*◌, ◌<◌, ◌≤◌, arith}
-use Rattle.chart.specs.declared.leg.Leg.{Leg}
+use Rattle.std.proofs.Common.{◌≡◌, ℕ, ◌*◌, ◌≤◌, arith}
 use Rattle.chart.specs.declared.flown.Flown.{Flown}
 use Rattle.chart.specs.Limits.{max_seconds}
 use Rattle.chart.specs.Kinds.{Made, none, more, Times, Bounded, seconds_rule}

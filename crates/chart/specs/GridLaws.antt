@@ -1,7 +1,7 @@
 -- The proofs that the legs of a grid are the legs of a chart. There is nothing here to believe:
 -- it stands among the definitions since the lattice itself cites it.
 use Rattle.std.specs.Prelude.{◌≡◌, ℕ, ◌+◌, ◌-◌, ◌*◌, ◌/◌, ◌%◌, ◌<◌, ◌≤◌, List, map, length, refl}
-use Rattle.std.proofs.Common.{sym, ap, subst, ◌∙◌, mod-lt, add-mul, div-add-mod', arith}
+use Rattle.std.proofs.Common.{sym, subst, mod-lt, add-mul, div-add-mod', arith}
 use Rattle.std.proofs.Math.Arith.{digits_lt}
 use Rattle.std.specs.List.{range_with_len}
 use Rattle.std.proofs.lemmas.Nat.{div_below, mul-le}

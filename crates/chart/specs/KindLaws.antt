@@ -1,11 +1,10 @@
 -- The proofs that the kinds keep their laws and the plain choices their bounds. There is nothing here to believe:
 -- it stands among the definitions since the kinds themselves cite it.
-use Rattle.std.specs.Prelude.{◌≡◌, ℕ, ◌+◌, ◌<◌, ◌≤◌, ◌⊎◌}
+use Rattle.std.specs.Prelude.{◌≡◌, ℕ, ◌≤◌, ◌⊎◌}
 use Rattle.std.proofs.Common.{ap, ◌∙◌, inl, inr, ⊎_elim, arith}
 use Rattle.std.proofs.Math.Decide.{dec_le}
-use Rattle.chart.specs.declared.leg.Leg.{Leg}
 use Rattle.chart.specs.declared.flown.Flown.{Flown}
-use Rattle.chart.specs.Kinds.{Rule, Laws, Times, Bounded, high_times, low_times, seconds_rule, level_rule}
+use Rattle.chart.specs.Kinds.{Laws, Times, Bounded, high_times, low_times, seconds_rule, level_rule}
 use Rattle.chart.specs.Quickest.{Sooner, quickest_rule}
 
 pub high_bounded : Bounded high_times

@@ -1,5 +1,5 @@
 -- What a lattice means: columns × rows fixes, and the legs of its grid.
-use Rattle.std.specs.Prelude.{◌≡◌, ℕ, ◌*◌, List, map}
+use Rattle.std.specs.Prelude.{ℕ, ◌*◌, List, map}
 use Rattle.chart.specs.declared.leg.Leg.{Leg}
 use Rattle.chart.specs.declared.lattice.Lattice.{Lattice}
 use Rattle.chart.specs.Legs.{Charted}

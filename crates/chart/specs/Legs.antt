@@ -1,5 +1,5 @@
 -- The legs of a chart by their numbers, and the limits that every chart keeps.
-use Rattle.std.specs.Prelude.{◌≡◌, ℕ, ◌<◌, ◌≤◌, List, length, Option, slice_index_or}
+use Rattle.std.specs.Prelude.{ℕ, ◌<◌, ◌≤◌, List, length, Option, slice_index_or}
 use Rattle.std.proofs.Common.{arith}
 use Rattle.std.specs.List.{slice_get}
 use Rattle.chart.specs.declared.leg.Leg.{Leg}

@@ -2,7 +2,7 @@
 use Rattle.std.specs.Prelude.{◌≡◌, ℕ, ◌+◌, ◌<◌, ◌≤◌, ◌⊎◌, List, [], ◌∷◌, length}
 use Rattle.chart.specs.declared.leg.Leg.{Leg}
 use Rattle.chart.specs.declared.row.Standing.TheVariants.{Open}
-use Rattle.chart.specs.Legs.{at, Charted}
+use Rattle.chart.specs.Legs.{at}
 
 -- k is the number of an open leg that leaves the fix s
 pub record Leaves (legs : List Leg) (s k : ℕ) : Type 0 where

@@ -5,7 +5,7 @@ use Rattle.chart.specs.declared.row.Row.{Row}
 use Rattle.chart.specs.declared.leg.Leg.{Leg}
 use Rattle.chart.specs.declared.table.Table.{Table}
 use Rattle.chart.specs.Legs.{Charted}
-use Rattle.chart.specs.Rows.{row_at, no_row, leg_of, Sound, AllSound, Counted}
+use Rattle.chart.specs.Rows.{row_at, no_row, leg_of, Sound, AllSound}
 use Rattle.chart.specs.ChartLaws.{rows_charted}
 
 -- the rows that a table has taken

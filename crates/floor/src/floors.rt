@@ -45,7 +45,7 @@ pub fn floor<C: Chart>(
     destination: u16,
     chain: &[u16],
 ) -> Result<u32, FloorRefusal>
-    ensures answers { FloorAnswer (trip (legs chart.now) departure destination) chain.now result }
+    ensures answers { FloorAnswer (trip (C.legs chart.now) departure destination) chain.now result }
     ensures below_every_regret { FloorIsBelowEveryRegret }
     ensures never_negative { FloorIsNeverNegative }
     ensures unique { FloorIsUnique }

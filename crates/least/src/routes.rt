@@ -39,7 +39,7 @@ pub fn least_regret<C: Chart>(
     destination: u16,
     memory: &mut [u16],
 ) -> Result<Found, RouteRefusal>
-    ensures answers { RouteAnswer (trip (legs chart.now) departure destination) (fixes chart.now) memory.old result memory.new }
+    ensures answers { RouteAnswer (trip (C.legs chart.now) departure destination) (C.fixes chart.now) memory.old result memory.new }
     ensures unique { LeastRegretIsUnique }
 {
     if memory.len() + 1 < chart.n() as usize {

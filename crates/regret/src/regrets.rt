@@ -45,7 +45,7 @@ pub fn regret<C: Chart>(
     destination: u16,
     list: &[u16],
 ) -> Result<u32, RegretRefusal>
-    ensures answers { RegretAnswer (trip (legs chart.now) departure destination) list.now result }
+    ensures answers { RegretAnswer (trip (C.legs chart.now) departure destination) list.now result }
     ensures worst_choice { WorstChoiceGivesRegret }
     ensures unique { RegretIsUnique }
 {

@@ -23,8 +23,8 @@ fn run<K: Kind>(
     destination: usize,
 ) -> Option<K::Total>
     requires ends { (departure < fixes_of snapshot.now) × (destination < fixes_of snapshot.now) × (departure ≢ destination) }
-    requires blank { (label.old ≡ replicate max_fixes (rule kind.now).start) × (mark.old ≡ replicate max_fixes Blank) }
-    ensures { BestTotal (rule kind.now) (legs_of snapshot.now) departure destination result }
+    requires blank { (label.old ≡ replicate max_fixes (K.rule kind.now).start) × (mark.old ≡ replicate max_fixes Blank) }
+    ensures { BestTotal (K.rule kind.now) (legs_of snapshot.now) departure destination result }
 {
     let fixes = snapshot.fixes as usize;
     mark[departure] = Mark::Reached;
@@ -45,7 +45,7 @@ pub fn best_on<K: Kind>(
     departure: u16,
     destination: u16,
 ) -> Option<K::Total>
-    ensures { BestTotal (rule kind.now) (legs_of snapshot.now) departure destination result }
+    ensures { BestTotal (K.rule kind.now) (legs_of snapshot.now) departure destination result }
 {
     if departure >= snapshot.fixes {
         return None;
@@ -75,7 +75,7 @@ pub fn best<C: Chart, K: Kind>(
     departure: u16,
     destination: u16,
 ) -> Option<K::Total>
-    ensures { BestTotal (rule kind.now) (legs chart.now) departure destination result }
+    ensures { BestTotal (K.rule kind.now) (C.legs chart.now) departure destination result }
 {
     let snapshot = Snapshot::of(chart);
     best_on(&snapshot, kind, departure, destination)

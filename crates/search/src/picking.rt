@@ -10,8 +10,8 @@ use chart::limits::MAX_FIXES;
 // The best so far, once the fix `v` is looked at too; from MAX_FIXES on, none.
 fn look<K: Kind>(kind: &K, label: &[K::Total], mark: &[Mark], best: usize, v: usize) -> usize
     requires sizes { (length label.now ≡ max_fixes) × (length mark.now ≡ max_fixes) × (v < max_fixes) }
-    requires before { Picked (rule kind.now) label.now mark.now v (found best) }
-    ensures { Picked (rule kind.now) label.now mark.now (v + 1) (found result) }
+    requires before { Picked (K.rule kind.now) label.now mark.now v (found best) }
+    ensures { Picked (K.rule kind.now) label.now mark.now (v + 1) (found result) }
 {
     match mark[v] {
         Mark::Reached => {
@@ -35,7 +35,7 @@ pub(crate) fn pick<K: Kind>(
     fixes: usize,
 ) -> Option<usize>
     requires { (length label.now ≡ max_fixes) × (length mark.now ≡ max_fixes) × (fixes ≤ max_fixes) }
-    ensures { Picked (rule kind.now) label.now mark.now fixes result }
+    ensures { Picked (K.rule kind.now) label.now mark.now fixes result }
 {
     let mut best = MAX_FIXES;
     for v in 0..fixes {

@@ -16,7 +16,7 @@ use chart::row::Standing;
 fn offer<K: Kind>(kind: &K, label: &mut [K::Total], mark: &mut [Mark], to: usize, total: K::Total)
     requires sizes { (length label.old ≡ max_fixes) × (length mark.old ≡ max_fixes) × (to < max_fixes) }
     requires undone { Done mark.old to → ⊥ }
-    ensures { Offered (rule kind.now) label.old mark.old to total label.new mark.new }
+    ensures { Offered (K.rule kind.now) label.old mark.old to total label.new mark.new }
 {
     match mark[to] {
         Mark::Blank => {
@@ -42,9 +42,9 @@ fn ease<K: Kind>(
     u: usize,
     j: u16,
 )
-    requires turn { InTurn (rule kind.now) snapshot.now label.old mark.old u j }
+    requires turn { InTurn (K.rule kind.now) snapshot.now label.old mark.old u j }
     requires leg { (j < length (legs_of snapshot.now)) × ((at (legs_of snapshot.now) j).from ≡ u) }
-    ensures { Advances (rule kind.now) snapshot.now u j (j + 1) label.old mark.old label.new mark.new }
+    ensures { Advances (K.rule kind.now) snapshot.now u j (j + 1) label.old mark.old label.new mark.new }
 {
     let leg = snapshot.leg_at(j);
     if let Standing::Closed = leg.standing {
@@ -66,8 +66,8 @@ fn ease_legs<K: Kind>(
     mark: &mut [Mark],
     u: usize,
 )
-    requires { InTurn (rule kind.now) snapshot.now label.old mark.old u 0 }
-    ensures { Advances (rule kind.now) snapshot.now u 0 (length (legs_of snapshot.now)) label.old mark.old label.new mark.new }
+    requires { InTurn (K.rule kind.now) snapshot.now label.old mark.old u 0 }
+    ensures { Advances (K.rule kind.now) snapshot.now u 0 (length (legs_of snapshot.now)) label.old mark.old label.new mark.new }
 {
     let mut j = snapshot.first_from(u);
     while j < snapshot.count {
@@ -84,9 +84,9 @@ pub(crate) fn settle<K: Kind>(
     mark: &mut [Mark],
     u: usize,
 )
-    requires rest { AtRest (rule kind.now) snapshot.now label.old mark.old }
-    requires pick { Pick (rule kind.now) label.old mark.old (fixes_of snapshot.now) u }
-    ensures { Settles (rule kind.now) snapshot.now label.old mark.old label.new mark.new }
+    requires rest { AtRest (K.rule kind.now) snapshot.now label.old mark.old }
+    requires pick { Pick (K.rule kind.now) label.old mark.old (fixes_of snapshot.now) u }
+    ensures { Settles (K.rule kind.now) snapshot.now label.old mark.old label.new mark.new }
 {
     mark[u] = Mark::Settled;
     ease_legs(snapshot, kind, label, mark, u);

@@ -12,8 +12,8 @@ use chart::row::Standing;
 
 // Copies the leg `k`.
 fn copy_leg<C: Chart>(chart: &C, row: &mut [Leg], k: u16)
-    requires { Copied (legs chart.now) row.old k × (k < length (legs chart.now)) }
-    ensures { Copied (legs chart.now) row.new (k + 1) }
+    requires { Copied (C.legs chart.now) row.old k × (k < length (C.legs chart.now)) }
+    ensures { Copied (C.legs chart.now) row.new (k + 1) }
 {
     if let Some(leg) = chart.leg(k) {
         row[k as usize] = leg;
@@ -23,7 +23,7 @@ fn copy_leg<C: Chart>(chart: &C, row: &mut [Leg], k: u16)
 // Copies every leg.
 fn copy_legs<C: Chart>(chart: &C, row: &mut [Leg])
     requires { length row.old ≡ max_legs }
-    ensures { Copied (legs chart.now) row.new (length (legs chart.now)) }
+    ensures { Copied (C.legs chart.now) row.new (length (C.legs chart.now)) }
 {
     for k in 0..chart.m() {
         copy_leg(chart, row, k);
@@ -57,8 +57,8 @@ fn link_legs(row: &[Leg], first: &mut [u16], next: &mut [u16], count: u16)
 impl Snapshot {
     // The snapshot of a chart, which means the fixes and the legs that the chart means.
     pub fn of<C: Chart>(chart: &C) -> Snapshot
-        ensures same_fixes { fixes_of result ≡ fixes chart.now }
-        ensures same_legs { legs_of result ≡ legs chart.now }
+        ensures same_fixes { fixes_of result ≡ C.fixes chart.now }
+        ensures same_legs { legs_of result ≡ C.legs chart.now }
     {
         let blank = Leg {
             from: 0,

@@ -1,4 +1,3 @@
-use Rattle.std.proofs.Common.{◌≡◌, ◌≤◌, length}
 use Rattle.chart.specs.Grid.{Copied}
 use Rattle.chart.proofs.lattice_chart.copy_steps.Given as goal
 

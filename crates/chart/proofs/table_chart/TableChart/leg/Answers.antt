@@ -1,4 +1,4 @@
-use Rattle.std.proofs.Common.{◌<◌, Some, sym, ap, ◌∙◌, subst, arith}
+use Rattle.std.proofs.Common.{◌<◌, Some, sym, ap, ◌∙◌, arith}
 use Rattle.chart.specs.Rows.{leg_of}
 use Rattle.chart.specs.Tables.{table_legs, taken, length_taken, row_taken}
 use Rattle.chart.proofs.RowLegs.{leg_of_plain, numbered_legs, no_leg_past}

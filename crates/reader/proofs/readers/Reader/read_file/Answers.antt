@@ -21,7 +21,12 @@ returns-in_err-found c =
 pub invariant_of-self-2 : goal.invariant_of-self-2
 invariant_of-self-2 c =
     let h = c.in_ok-found.ensures.0 in
-    (c.check_file.auto.starts ∙ length-replicate {A = ℕ} 200 0, (h.most, ((λ i b. fix_within c.args.self.now.file.now (get_or c.check_file.new.starts i 0) (h.stand i b)), (h.indexed, tt))))
+    record {
+      long = c.check_file.auto.starts ∙ length-replicate {A = ℕ} 200 0;
+      most = h.most;
+      within = λ i b. fix_within c.args.self.now.file.now (get_or c.check_file.new.starts i 0) (h.stand i b);
+      indexed = h.indexed;
+    }
 
 pub returns : goal.returns
 unfolding names_of

@@ -26,43 +26,22 @@ invariant_of-result g c =
     let same = c.copy_legs.ensures.same in
     let l = c.link_legs.ensures in
     let few = charted.few in
-    let fair = fair_copied legs row (g.C.Chart.fixes chart) c.m-count.result charted em c.copy_legs.ensures in (
-      c.copy_legs.ensures.whole,
-      (
-        l.heads,
-        (
-          l.links,
-          (
-            omega (arith, charted.least),
-            (
-              omega (arith, charted.most),
-              (
-                omega arith,
-                (
-                  (λ k h. let b : k < length legs = omega arith in let p = charted.leaves k b in subst (λ (x : Leg). x.from < c.n-fixes.result) (sym (same k b)) (omega arith)),
-                  (
-                    (λ k h. let b : k < length legs = omega arith in let p = charted.enters k b in subst (λ (x : Leg). x.to < c.n-fixes.result) (sym (same k b)) (omega arith)),
-                    (
-                      (λ v h b. (l.starts v h).leaves b),
-                      (
-                        (λ k h. lowest_first row c.m-count.result (at row k).from k 0 _ (l.starts (at row k).from (fair.leaves k h)) (omega arith) h refl),
-                        (
-                          (λ k h. let p = (l.goes k (omega arith) h).above in omega arith),
-                          (
-                            (λ k h b. (l.goes k (omega arith) h).leaves b),
-                            ((λ k i h. let z = h.0 in let y = h.1 in lowest_first row c.m-count.result (at row k).from i _ _ (l.goes k (omega arith) (omega arith)) (omega arith) h.1 h.2), tt),
-                          ),
-                        ),
-                      ),
-                    ),
-                  ),
-                ),
-              ),
-            ),
-          ),
-        ),
-      ),
-    )
+    let fair = fair_copied legs row (g.C.Chart.fixes chart) c.m-count.result charted em c.copy_legs.ensures in
+    record {
+      whole = c.copy_legs.ensures.whole;
+      heads = l.heads;
+      links = l.links;
+      least = omega (arith, charted.least);
+      most = omega (arith, charted.most);
+      filled = omega arith;
+      leaves = λ k h. let b : k < length legs = omega arith in let p = charted.leaves k b in subst (λ (x : Leg). x.from < c.n-fixes.result) (sym (same k b)) (omega arith);
+      enters = λ k h. let b : k < length legs = omega arith in let p = charted.enters k b in subst (λ (x : Leg). x.to < c.n-fixes.result) (sym (same k b)) (omega arith);
+      head = λ v h b. (l.starts v h).leaves b;
+      before = λ k h. lowest_first row c.m-count.result (at row k).from k 0 _ (l.starts (at row k).from (fair.leaves k h)) (omega arith) h refl;
+      rises = λ k h. let p = (l.goes k (omega arith) h).above in omega arith;
+      follows = λ k h b. (l.goes k (omega arith) h).leaves b;
+      between = λ k i h. let z = h.0 in let y = h.1 in lowest_first row c.m-count.result (at row k).from i _ _ (l.goes k (omega arith) (omega arith)) (omega arith) h.1 h.2;
+    }
 
 pub returns : goal.returns
 unfolding legs_of
