@@ -1,12 +1,12 @@
 -- One record more at the beginning of a file: a record that passes its checks is its bytes, and the file then begins with it too.
-use Rattle.std.proofs.Common.{◌≡◌, ℕ, ◌+◌, ◌*◌, ◌<◌, ◌≤◌, List, [], ◌∷◌, ◌++◌, length, get_or, take, drop, sym, refl, ap, ◌∙◌, subst, ⊎_elim, append_assoc, arith, length-append, length-drop}
+use Rattle.std.proofs.Common.{◌≡◌, ℕ, ◌+◌, ◌<◌, ◌≤◌, List, [], ◌∷◌, ◌++◌, length, get_or, take, drop, sym, refl, ap, ◌∙◌, subst, ⊎_elim, append_assoc, arith, length-append, length-drop}
 use Rattle.std.specs.List.{flat_map}
 use Rattle.std.proofs.lemmas.List.{flat_map_more, take-append-drop, drop-drop, length_push, get_or_push, get_or_append_left, length-take-le, append-nil}
 use Rattle.std.proofs.lemmas.Bool.{cases_eq}
 use Rattle.chart.specs.declared.row.Row.{Row}
 use Rattle.chart.specs.declared.row.Standing.TheVariants.{Open}
-use Rattle.chart.specs.Rows.{Sound, no_row, row_at}
-use Rattle.records.specs.Format.{Name, name_at, two, chart_bytes, fix_bytes, leg_bytes, end_bytes, opening, Named, Fresh, Lawful}
+use Rattle.chart.specs.Rows.{Sound, no_row}
+use Rattle.records.specs.Format.{Name, chart_bytes, fix_bytes, leg_bytes, end_bytes, opening, Named, Fresh, Lawful}
 use Rattle.records.specs.Checks.{Pass, byte, body, name_in, leg_in, fixes_in, legs_in, chart_checks, fix_checks, leg_checks, end_checks}
 use Rattle.records.specs.Faults.{Begins}
 use Rattle.records.proofs.Backs.{leg_split, two_split}

@@ -1,7 +1,7 @@
 -- Where the reader stands between two records: one name or one leg more, or the fault that is owed there.
-use Rattle.std.proofs.Common.{◌≡◌, ℕ, zero, suc, ◌+◌, ◌*◌, ◌<◌, ◌≤◌, ◌⊎◌, List, [], ◌∷◌, ◌++◌, length, get_or, take, drop, set, sym, refl, ap, ◌∙◌, subst, subst₂, inl, inr, ⊎_elim, add-one, arith, length-append, length-drop, length-set}
+use Rattle.std.proofs.Common.{◌≡◌, ℕ, zero, suc, ◌+◌, ◌*◌, ◌<◌, ◌≤◌, List, [], ◌∷◌, ◌++◌, length, get_or, take, drop, set, sym, refl, ap, ◌∙◌, subst, subst₂, inl, inr, ⊎_elim, add-one, arith, length-append, length-drop, length-set}
 use Rattle.std.specs.List.{flat_map}
-use Rattle.std.proofs.lemmas.List.{drop-drop, length_push, take_more_set, take_at, take-append-le, length-take-le, get_or-set_same, get_or-set_other, get_or-drop, append-nil, nil_from_length}
+use Rattle.std.proofs.lemmas.List.{drop-drop, length_push, take_more_set, take_at, take-append-le, get_or-set_same, get_or-set_other, get_or-drop, append-nil, nil_from_length}
 use Rattle.std.proofs.lemmas.Bool.{cases_eq}
 use Rattle.chart.specs.declared.row.Row.{Row}
 use Rattle.chart.specs.Limits.{max_fixes}
@@ -11,10 +11,10 @@ use Rattle.records.specs.declared.faults.RecordFault.TheVariants.{Bytes, BadCoun
 use Rattle.records.specs.declared.faults.BytesFault.TheVariants.{Short, Unknown}
 use Rattle.records.specs.Format.{Name, chart_bytes, fix_bytes, end_bytes, opening, Lawful, Means, name_place}
 use Rattle.records.specs.Reports.{chart_report}
-use Rattle.records.specs.Checks.{FirstFails, Pass, byte, body, name_in, leg_in, fixes_in, legs_in, chart_checks, fix_checks, leg_checks, end_checks, after_checks, fix_body}
+use Rattle.records.specs.Checks.{Pass, byte, body, name_in, leg_in, fixes_in, legs_in, chart_checks, fix_checks, leg_checks, end_checks}
 use Rattle.records.specs.Faults.{Begins, Owes, at_chart, at_fix, at_leg, at_end, after_end, Finds, Owed}
 use Rattle.reader.specs.Places.{Refuses, FixAt, Stand, Indexed, names_at, legs_at, Naming, Legging, Stops}
-use Rattle.reader.proofs.NamesAt.{names_length, names_push, names_counted}
+use Rattle.reader.proofs.NamesAt.{names_push, names_counted}
 use Rattle.reader.proofs.Openings.{begins_chart, begins_fix, begins_leg, end_split}
 
 -- every fault tells the layer that finds its number

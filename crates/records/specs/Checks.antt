@@ -1,5 +1,5 @@
 -- The checks of each record, in their order.
-use Rattle.std.specs.Prelude.{◌≡◌, ℕ, ◌+◌, ◌*◌, ◌<◌, ◌≤◌, ◌⊎◌, List, [], ◌∷◌, ◌++◌, length, take, drop, slice_index}
+use Rattle.std.specs.Prelude.{◌≡◌, ℕ, ◌+◌, ◌*◌, ◌≤◌, ◌⊎◌, List, [], ◌∷◌, ◌++◌, length, take, drop, slice_index}
 use Rattle.chart.specs.declared.row.Row.{Row}
 use Rattle.chart.specs.declared.row.Standing.TheVariants.{Open}
 use Rattle.chart.specs.Rows.{Counted, Timed, Placed}

@@ -1,5 +1,4 @@
 -- What each fault tells: its number, its layer and its place.
-use Rattle.std.specs.Prelude.{ℕ}
 use Rattle.records.specs.declared.faults.Report.{Report}
 use Rattle.records.specs.declared.faults.Layer.TheVariants as layer
 use Rattle.records.specs.declared.faults.BytesFault.{BytesFault}

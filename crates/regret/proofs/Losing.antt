@@ -1,17 +1,17 @@
 -- The regret of a route from the best total in its worst choice, and a walk one leg longer.
-use Rattle.std.proofs.Common.{◌≡◌, ℕ, ◌+◌, ◌-◌, ◌*◌, ◌<◌, ◌≤◌, Bool, true, false, ◌⊎◌, List, [], ◌∷◌, ◌++◌, length, get_or, take, set, replicate, sym, refl, ap, ◌∙◌, subst, inl, inr, arith, length-set}
+use Rattle.std.proofs.Common.{◌≡◌, ℕ, ◌+◌, ◌*◌, ◌<◌, ◌≤◌, Bool, true, false, List, [], ◌∷◌, ◌++◌, length, get_or, take, set, replicate, sym, refl, ap, ◌∙◌, subst, arith, length-set}
 use Rattle.std.proofs.lemmas.List.{take_more, take_all, length-replicate}
 use Rattle.chart.specs.declared.leg.Leg.{Leg}
 use Rattle.chart.specs.Limits.{max_fixes, max_legs, max_seconds}
 use Rattle.chart.specs.Legs.{at, Charted}
-use Rattle.chart.specs.Routes.{In, Chain, Route}
+use Rattle.chart.specs.Routes.{Chain, Route}
 use Rattle.chart.specs.Kinds.{seconds_rule}
 use Rattle.chart.specs.Best.{total_from, Best}
 use Rattle.chart.specs.Regret.{trip, time, LeastTime, Regret, Worst}
 use Rattle.chart.specs.Floors.{highs}
 use Rattle.chart.proofs.Short.{chain_short}
 use Rattle.chart.proofs.Within.{route_goes_away}
-use Rattle.regret.specs.Walks.{Flags, Steps, Walk, Along}
+use Rattle.regret.specs.Walks.{Flags, Steps, Along}
 use Rattle.regret.specs.Marked.{time_by, marked_times}
 use Rattle.regret.proofs.Walks.{off_false, flags_push, flags_none, walks_start, walks_again}
 use Rattle.regret.proofs.Worsts.{worst_choice_gives_regret, time_same}

@@ -1,13 +1,13 @@
 -- A walk one leg longer, where it cannot go on, and where it ends.
-use Rattle.std.proofs.Common.{◌≡◌, ℕ, ◌+◌, ◌<◌, ◌≤◌, Bool, true, false, ◌⊎◌, List, [], ◌∷◌, ◌++◌, length, get_or, take, drop, set, replicate, sym, refl, ap, ◌∙◌, subst, inl, inr, ⊎_elim, arith, length-set}
+use Rattle.std.proofs.Common.{◌≡◌, ℕ, ◌+◌, ◌<◌, ◌≤◌, Bool, true, false, List, [], ◌∷◌, ◌++◌, length, get_or, take, drop, set, replicate, sym, refl, ap, ◌∙◌, subst, ⊎_elim, arith, length-set}
 use Rattle.std.proofs.lemmas.List.{get_or-set_same, get_or-set_other, get_or_past, get_or-replicate, length-replicate, take-append-drop, drop_more, take_more, take_all}
 use Rattle.std.proofs.lemmas.Bool.{cases_eq, cases_lt}
 use Rattle.chart.specs.declared.leg.Leg.{Leg}
 use Rattle.chart.specs.declared.row.Standing.TheVariants.{Open}
 use Rattle.chart.specs.Limits.{max_fixes}
 use Rattle.chart.specs.Legs.{at}
-use Rattle.chart.specs.Routes.{Leaves, Leads, entered, met, In, Once, Chain}
-use Rattle.chart.proofs.Chains.{leads_push, leads_on, leads_end, entered_append, in_front, in_mid, in_end, once_push, once_at}
+use Rattle.chart.specs.Routes.{entered, met, In, Once, Chain}
+use Rattle.chart.proofs.Chains.{leads_push, leads_on, entered_append, in_front, in_mid, in_end, once_push, once_at}
 use Rattle.regret.specs.Walks.{Flags, Walk, Steps, NoChain}
 
 pub true_false : (b : Bool) → b ≡ true → b ≡ false → ⊥

@@ -1,10 +1,10 @@
 -- The choice of times that is worst for a route.
-use Rattle.std.proofs.Common.{◌≡◌, ℕ, ◌+◌, ◌-◌, ◌<◌, ◌≤◌, Bool, true, false, cond, eqb, ◌⊎◌, List, [], ◌∷◌, ◌++◌, length, sym, refl, ap, ◌∙◌, subst, inl, inr, ⊎_elim, arith, eq-eqb, ne_eqb}
+use Rattle.std.proofs.Common.{◌≡◌, ℕ, ◌+◌, ◌-◌, ◌<◌, ◌≤◌, cond, eqb, ◌⊎◌, List, [], ◌∷◌, length, sym, refl, ap, subst, inl, inr, ⊎_elim, arith, eq-eqb, ne_eqb}
 use Rattle.std.proofs.lemmas.Bool.{cases_eq}
 use Rattle.chart.specs.declared.leg.Leg.{Leg}
 use Rattle.chart.specs.Legs.{at}
-use Rattle.chart.specs.Routes.{Leads, entered, In, Once, Route}
-use Rattle.chart.specs.Regret.{Trip, Flies, Choice, time, Worst, WorstChoiceGivesRegret, RegretIsUnique}
+use Rattle.chart.specs.Routes.{Leads, entered, In, Once}
+use Rattle.chart.specs.Regret.{Choice, time, Worst, WorstChoiceGivesRegret, RegretIsUnique}
 
 pub in_or : (x : ℕ) (ys : List ℕ) → In x ys ⊎ (In x ys → ⊥)
 in_or x [] = inr (λ n. n)

@@ -1,5 +1,5 @@
 -- The choice of times in which the marked legs take their high time, and all others their low.
-use Rattle.std.specs.Prelude.{◌≡◌, ℕ, ◌≤◌, Bool, true, false, cond, List, slice_index_or}
+use Rattle.std.specs.Prelude.{ℕ, ◌≤◌, Bool, true, false, cond, List, slice_index_or}
 use Rattle.std.proofs.Common.{arith}
 use Rattle.chart.specs.declared.leg.Leg.{Leg}
 use Rattle.chart.specs.Kinds.{Times, Bounded}

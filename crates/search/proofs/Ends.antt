@@ -1,13 +1,12 @@
 -- The search begins and ends, and where there is no route without a search.
-use Rattle.std.proofs.Common.{◌≡◌, ℕ, ◌<◌, ◌≤◌, List, [], ◌∷◌, length, set, replicate, sym, refl, ◌∙◌, subst, inl, inr, ⊎_elim, arith, length-set}
+use Rattle.std.proofs.Common.{◌≡◌, ℕ, ◌<◌, ◌≤◌, List, [], ◌∷◌, length, set, replicate, sym, refl, ◌∙◌, subst, ⊎_elim, arith, length-set}
 use Rattle.std.proofs.lemmas.List.{get_or-set_same, get_or-set_other, get_or_past, get_or-replicate, length-replicate}
 use Rattle.std.proofs.lemmas.Bool.{cases_eq, cases_lt}
-use Rattle.chart.specs.declared.leg.Leg.{Leg}
 use Rattle.chart.specs.Legs.{at, Charted}
 use Rattle.chart.specs.Limits.{max_fixes}
 use Rattle.chart.specs.Kinds.{Laws}
 use Rattle.chart.specs.Best.{total_from, Best}
-use Rattle.chart.specs.Routes.{Leads, In, entered, Route}
+use Rattle.chart.specs.Routes.{Leads, Route}
 use Rattle.search.specs.declared.mark.Mark.{Mark}
 use Rattle.search.specs.declared.mark.Mark.TheVariants.{Blank, Reached}
 use Rattle.search.specs.Labels.{mark_at, label_at, Known, Done}

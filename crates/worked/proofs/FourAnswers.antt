@@ -1,10 +1,9 @@
 -- The answers on the four-fix chart, each checked on its three lists of legs.
-use Rattle.std.proofs.Common.{◌≡◌, ℕ, ◌+◌, ◌<◌, ◌≤◌, min, ◌⊎◌, List, [], ◌∷◌, ◌++◌, length, sym, refl, ap, ◌∙◌, subst, inl, inr, ⊎_elim, arith}
+use Rattle.std.proofs.Common.{◌≡◌, ℕ, ◌+◌, ◌<◌, ◌≤◌, min, List, [], ◌∷◌, sym, refl, ap, ◌∙◌, subst, inl, inr, ⊎_elim, arith}
 use Rattle.chart.specs.declared.row.Row.{Row}
 use Rattle.chart.specs.declared.row.Standing.{Standing}
 use Rattle.chart.specs.declared.row.Standing.TheVariants.{Open, Closed}
 use Rattle.chart.specs.declared.leg.Leg.{Leg}
-use Rattle.chart.specs.declared.flown.Flown.{Flown}
 use Rattle.chart.specs.Legs.{at}
 use Rattle.chart.specs.Rows.{row_at}
 use Rattle.chart.specs.Routes.{In, Route}
@@ -18,7 +17,6 @@ use Rattle.chart.specs.GridLaws.{length_grid, grid_at}
 use Rattle.regret.proofs.Worsts.{worst_choice_gives_regret, regret_is_unique}
 use Rattle.worked.specs.FourFix.{rows_with, legs_with, from_first_to_last, four_fix_trip, FourFixWorked, FourFixClosed, SmallLatticeWorked}
 use Rattle.worked.proofs.Tests.{worst, worst_is_worst, braced, braced_is_braced}
-use Rattle.worked.proofs.FourRoutes.{Joined}
 use Rattle.worked.proofs.FourLegs.{closed_open, leg_is, five_legs, joined, by_one, by_two, by_one_and_two, second_open, of_every_route}
 
 -- the times and levels of the legs, whatever their standings

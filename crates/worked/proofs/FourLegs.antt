@@ -1,12 +1,12 @@
 -- The legs of the four-fix chart whatever their standings, and which lists of them are routes.
-use Rattle.std.proofs.Common.{◌≡◌, ℕ, zero, suc, ◌<◌, ◌≤◌, ◌⊎◌, List, [], ◌∷◌, length, sym, refl, ap, ◌∙◌, subst, inl, inr, ⊎_elim, arith}
+use Rattle.std.proofs.Common.{◌≡◌, ℕ, zero, suc, ◌<◌, ◌≤◌, List, [], ◌∷◌, length, sym, refl, ap, ◌∙◌, subst, ⊎_elim, arith}
 use Rattle.chart.specs.declared.row.Row.{Row}
 use Rattle.chart.specs.declared.row.Standing.{Standing}
 use Rattle.chart.specs.declared.row.Standing.TheVariants.{Open, Closed}
 use Rattle.chart.specs.Limits.{max_seconds, max_level}
 use Rattle.chart.specs.Legs.{at}
 use Rattle.chart.specs.Rows.{plain, row_at, Sound, AllSound}
-use Rattle.chart.specs.Routes.{Leaves, Leads, In, Once, Route}
+use Rattle.chart.specs.Routes.{Leaves, Route}
 use Rattle.chart.specs.ChartLaws.{plain_sound, length_legs, at_legs}
 use Rattle.worked.specs.FourFix.{row, rows_with, four_fix_rows, legs_with}
 use Rattle.worked.proofs.FourRoutes.{Joined, three_ways}

@@ -1,4 +1,4 @@
-use Rattle.std.proofs.Common.{length, drop, ap, arith, length-drop}
+use Rattle.std.proofs.Common.{length, ap, arith, length-drop}
 use Rattle.reader.proofs.files.fill_one.Goals as goal
 
 pub returns-in_default : goal.returns-in_default

@@ -1,4 +1,4 @@
-use Rattle.std.proofs.Common.{◌<◌, drop, arith, length-drop}
+use Rattle.std.proofs.Common.{drop, arith, length-drop}
 use Rattle.std.proofs.lemmas.Result.{err_from_is_err_and}
 use Rattle.reader.proofs.Stages.{legging_more, stops_at_leg}
 use Rattle.reader.proofs.files.read_legs.Goals as goal

@@ -1,4 +1,4 @@
-use Rattle.std.proofs.Common.{refl, arith, length-drop}
+use Rattle.std.proofs.Common.{arith, length-drop}
 use Rattle.std.proofs.lemmas.Result.{err_from_is_err_and}
 use Rattle.reader.proofs.Stages.{stops_at_end, stops_after_end, read_whole}
 use Rattle.reader.proofs.files.read_legs_to_end.Goals as goal

@@ -1,5 +1,4 @@
-use Rattle.std.proofs.Common.{◌≤◌, get_or, take, arith}
-use Rattle.chart.specs.Limits.{max_seconds}
+use Rattle.std.proofs.Common.{get_or, take, arith}
 use Rattle.search.specs.Snapshots.{legs_of}
 use Rattle.search.specs.Sound.{snapshot_charted}
 use Rattle.regret.proofs.Walks.{walks_stuck}
