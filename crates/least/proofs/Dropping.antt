@@ -1,6 +1,6 @@
 -- When a chain may be dropped: no route begins with it, or the best so far beats the chain with a regret that is below the
 -- regret of every route that begins with it.
-use Rattle.std.proofs.Common.{◌≡◌, ℕ, ◌<◌, ◌≤◌, Bool, true, false, List, Some, MatchBool, Option, sym, subst, inl, inr, ⊎_elim, arith}
+use Rattle.std.proofs.Common.{ℕ, ◌≤◌, Bool, true, false, List, Some, MatchBool, Option, sym, subst, inl, inr, ⊎_elim, arith}
 use Rattle.std.proofs.lemmas.Bool.{cases_lt}
 use Rattle.chart.specs.Routes.{Before}
 use Rattle.chart.specs.Regret.{Trip, Flies, Regret, Beats}

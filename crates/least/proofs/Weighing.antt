@@ -1,5 +1,5 @@
 -- One list weighed against the best so far.
-use Rattle.std.proofs.Common.{◌≡◌, ℕ, ◌⊎◌, List, ◌++◌, length, take, Some, None, Option, sym, refl, ap, ◌∙◌, subst, subst₂, inl, inr, ⊎_elim, arith}
+use Rattle.std.proofs.Common.{◌≡◌, ℕ, ◌⊎◌, List, ◌++◌, length, take, Some, None, Option, sym, ap, ◌∙◌, subst, subst₂, inl, inr, ⊎_elim, arith}
 use Rattle.std.proofs.lemmas.List.{take_at, length-append}
 use Rattle.chart.specs.Regret.{Trip, Flies, Regret, Beats}
 use Rattle.regret.proofs.Worsts.{regret_is_unique}

@@ -1,4 +1,4 @@
-use Rattle.std.proofs.Common.{◌≡◌, ◌-◌, ◌<◌, ◌≤◌, length, take, sym, refl, ap, ◌∙◌, arith, length-take, rules}
+use Rattle.std.proofs.Common.{◌≡◌, ◌-◌, take, refl, ap, ◌∙◌, arith, length-take, rules}
 use Rattle.chart.specs.declared.leg.Leg.{Leg}
 use Rattle.search.specs.Snapshots.{legs_of}
 use Rattle.search.specs.Sound.{snapshot_charted}

@@ -1,4 +1,4 @@
-use Rattle.std.proofs.Common.{◌≡◌, ℕ, ◌-◌, take, Some, MatchBool, Option, sym, subst, arith}
+use Rattle.std.proofs.Common.{◌≡◌, ◌-◌, take, Some, MatchBool, Option, sym, subst, arith}
 use Rattle.floor.proofs.Bounds.{floor_is_below_every_regret}
 use Rattle.least.specs.declared.found.Found.{Found}
 use Rattle.least.specs.Sweeps.{trip_on, Hopeless}

@@ -1,4 +1,4 @@
-use Rattle.std.proofs.Common.{◌≡◌, ◌+◌, ◌-◌, ◌<◌, ◌≤◌, ◌++◌, length, take, drop, None, refl, subst, arith, length-take}
+use Rattle.std.proofs.Common.{◌≡◌, ◌-◌, ◌++◌, length, take, drop, None, refl, subst, arith, length-take}
 use Rattle.chart.specs.Regret.{trip}
 use Rattle.least.specs.Sweeps.{Least}
 use Rattle.least.proofs.Unique.{least_regret_is_unique}

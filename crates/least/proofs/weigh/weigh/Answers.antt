@@ -1,4 +1,4 @@
-use Rattle.std.proofs.Common.{◌≡◌, length, drop, refl, arith}
+use Rattle.std.proofs.Common.{length, drop, arith}
 use Rattle.least.specs.Sweeps.{trip_on}
 use Rattle.least.proofs.Weighing.{weigh_better, weigh_worse}
 use Rattle.least.proofs.weigh.weigh.Goals as goal
