@@ -1,6 +1,6 @@
 // Best totals, regrets, floors and the route of least regret on the chart of a file, with the names of the file's fixes.
 use super::replies::{show_best, show_refusal};
-use super::routes::{show_regrets, show_route};
+use super::routes::{show_regrets, show_route_in};
 use super::session::blank_rows;
 use chart::charts::Chart;
 use chart::limits::MAX_FIXES;
@@ -54,6 +54,6 @@ pub fn show_file(rt: &HostRuntime, file: &[u8]) -> anyhow::Result<()> {
     show_best(rt, &table, 3, 0)?;
     show_regrets(rt, &table)?;
     let mut memory = [0u16; MAX_FIXES];
-    let length = show_route(rt, &table, &mut memory)?;
+    let length = show_route_in(rt, &table, &mut memory)?;
     show_met(rt, &table, &reader, 0, &memory[0..length.min(MAX_FIXES)])
 }

@@ -50,8 +50,8 @@ pub fn show_regrets<C: Chart>(rt: &HostRuntime, chart: &C) -> io::Result<()> {
     show_floor(rt, chart, &[3])
 }
 
-// The route of least regret, and how many legs it has.
-pub fn show_route<C: Chart>(
+// The route of least regret in the memory given, and how many legs it has.
+pub fn show_route_in<C: Chart>(
     rt: &HostRuntime,
     chart: &C,
     memory: &mut [u16; MAX_FIXES],
@@ -70,4 +70,10 @@ pub fn show_route<C: Chart>(
             Ok(0)
         }
     }
+}
+
+pub fn show_route<C: Chart>(rt: &HostRuntime, chart: &C) -> io::Result<()> {
+    let mut memory = [0u16; MAX_FIXES];
+    let _legs = show_route_in(rt, chart, &mut memory)?;
+    Ok(())
 }

@@ -1,7 +1,6 @@
 // The four-fix chart as a table, with legs closed too, and tables that are refused.
 use super::replies::{show_best, show_chart, show_refusal};
 use super::routes::{show_regrets, show_route};
-use chart::limits::MAX_FIXES;
 use chart::row::{Row, Standing};
 use chart::table::Table;
 use std::io;
@@ -40,11 +39,7 @@ fn show_closed(rt: &HostRuntime, legs: &[usize]) -> io::Result<()> {
     close(&mut rows, legs);
     let mut table = Table::new(&rows);
     match table.take_rows(4) {
-        Ok(()) => {
-            let mut memory = [0u16; MAX_FIXES];
-            let _legs = show_route(rt, &table, &mut memory)?;
-            Ok(())
-        }
+        Ok(()) => show_route(rt, &table),
         Err(refusal) => show_refusal(rt, "table", refusal.number()),
     }
 }
@@ -57,9 +52,7 @@ fn show_four_fixes(rt: &HostRuntime) -> io::Result<()> {
             show_best(rt, &table, 0, 3)?;
             show_best(rt, &table, 3, 0)?;
             show_regrets(rt, &table)?;
-            let mut memory = [0u16; MAX_FIXES];
-            let _legs = show_route(rt, &table, &mut memory)?;
-            Ok(())
+            show_route(rt, &table)
         }
         Err(refusal) => show_refusal(rt, "table", refusal.number()),
     }
