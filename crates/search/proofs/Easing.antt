@@ -1,6 +1,6 @@
 -- One leg of the fix that was settled last.
 use Rattle.std.proofs.Common.{◌≡◌, ℕ, ◌+◌, ◌<◌, ◌≤◌, List, [], ◌∷◌, ◌++◌, length, get_or, set, sym, refl, ap, ◌∙◌, subst, subst₂, ⊎_elim, arith, length-set}
-use Rattle.std.proofs.lemmas.List.{get_or-set_same, get_or-set_other, length_push, get_or_read}
+use Rattle.std.proofs.lemmas.List.{get_or-set_same, get_or-set_other, length_push, get_or_default}
 use Rattle.std.proofs.lemmas.Bool.{cases_eq}
 use Rattle.chart.specs.declared.row.Standing.TheVariants.{Closed}
 use Rattle.chart.specs.Legs.{at, Charted}
@@ -11,9 +11,8 @@ use Rattle.search.specs.declared.mark.Mark.{Mark}
 use Rattle.search.specs.declared.mark.Mark.TheVariants.{Reached}
 use Rattle.search.specs.Labels.{label_at, Known, Done, done}
 use Rattle.search.specs.State.{Quest, Way, Eased, Turn, Offered, took, held}
-use Rattle.search.proofs.Choosing.{as_good_as_itself}
 use Rattle.chart.proofs.Chains.{in_met_push, chain_push, total_push, made_of_its_legs}
-use Rattle.search.proofs.Marks.{reached_settled, reached_blank, settled_blank, known_small, mark_here, done_on, done_back, known_on, known_back, done_same, done_not_all}
+use Rattle.search.proofs.Marks.{as_good_as_itself, reached_settled, reached_blank, settled_blank, known_small, mark_here, done_on, done_back, known_on, known_back, done_same, done_not_all}
 
 -- the label of a fix
 abbrev pub label_in : {T : Type 0} → Quest T → List T → ℕ → T
@@ -33,8 +32,8 @@ module _ {T : Type 0} (q : Quest T) (laws : Laws q.rule) (label : List T) (mark 
   pub turn_small : u < max_fixes
   turn_small = let s = known_small mark u known_u in omega (arith, turn.state.marks)
 
-  pub read_u : (x : T) → x ≡ get_or label u x → x ≡ label_in q label u
-  read_u x e = let s = turn_small in get_or_read label u x (omega (arith, turn.state.labels)) e q.rule.start
+  pub read_u : (x : T) → get_or label u x ≡ label_in q label u
+  read_u x = let s = turn_small in get_or_default label u x q.rule.start (omega (arith, turn.state.labels))
 
   -- a fix that is not settled is one more than the chain of u meets
   pub few_legs : (w : ℕ) → w < max_fixes → (Done mark w → ⊥) → Few q.rule (label_in q label u)

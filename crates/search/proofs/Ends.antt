@@ -11,8 +11,7 @@ use Rattle.search.specs.declared.mark.Mark.{Mark}
 use Rattle.search.specs.declared.mark.Mark.TheVariants.{Blank, Reached}
 use Rattle.search.specs.Labels.{mark_at, label_at, Known, Done}
 use Rattle.search.specs.State.{Quest, Way, Rest}
-use Rattle.search.proofs.Choosing.{as_good_as_itself}
-use Rattle.search.proofs.Marks.{reached_settled, reached_blank, settled_blank, only_settled}
+use Rattle.search.proofs.Marks.{as_good_as_itself, reached_settled, reached_blank, settled_blank, only_settled}
 
 -- before the first step the departure is reached, at the start
 module _ {T : Type 0} (q : Quest T) (laws : Laws q.rule) (charted : Charted q.fixes q.legs) (fix : q.departure < q.fixes) where

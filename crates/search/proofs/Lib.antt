@@ -1,6 +1,5 @@
 pub mod Linking
 pub mod Leaving
-pub mod Choosing
 pub mod Marks
 pub mod Easing
 pub mod Turns

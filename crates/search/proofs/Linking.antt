@@ -1,95 +1,96 @@
 -- The legs of a chart are copied into a row, and linked from the last to the first.
-use Rattle.std.proofs.Common.{◌≡◌, ℕ, ◌+◌, ◌<◌, ◌≤◌, List, length, get_or, take, set, replicate, sym, refl, ap, ◌∙◌, subst, ⊎_elim, arith, length-set, length-take, get_or-take}
-use Rattle.std.proofs.lemmas.List.{get_or-set_same, get_or-set_other, get_or-replicate, length-replicate, get_or_read, ext_get_or}
-use Rattle.std.proofs.lemmas.Bool.{cases_eq, cases_lt}
+use Rattle.std.proofs.Common.{◌≡◌, ℕ, ◌+◌, ◌<◌, ◌≤◌, List, [], ◌∷◌, ◌++◌, length, get_or, take, map, set, replicate, Option, Some, None, sym, refl, ap, ◌∙◌, subst, ⊎_elim, arith, length-set, length-take, get_or-take}
+use Rattle.std.proofs.lemmas.List.{get_or-set_same, get_or-set_other, get_or-replicate, length-replicate, length-map, get_or-map, map-set, take_more, take_more_set}
+use Rattle.std.proofs.Math.Seq.{map-set_same}
+use Rattle.std.proofs.lemmas.Bool.{cases_eq}
 use Rattle.chart.specs.declared.leg.Leg.{Leg}
 use Rattle.chart.specs.Legs.{at, no_leg, Charted}
 use Rattle.chart.specs.Limits.{max_fixes, max_legs}
-use Rattle.search.specs.Index.{Lowest, Copied, Fair, Linked}
+use Rattle.search.specs.declared.linked.Linked.{Linked}
+use Rattle.search.specs.Index.{taken, nexts, FirstLeg, Fair, Chained}
 
-at_set_same : (row : List Leg) (k : ℕ) (leg : Leg) → k < length row → at (set row k leg) k ≡ leg
+pub taken_length : (count : ℕ) (row : List Linked) → length row ≡ max_legs → count ≤ max_legs → length (taken count row) ≡ count
+taken_length count row whole filled =
+    let e = length-take count (map (λ (l : Linked). l.leg) row) in
+    omega (arith, length-map row (λ (l : Linked). l.leg))
+
+-- the leg of a number, as it is read in the row
+pub taken_at : (count : ℕ) (row : List Linked) (k : ℕ) (d : Linked) → k < count → count ≤ length row → at (taken count row) k ≡ (get_or row k d).leg
 unfolding at
-at_set_same row k leg lt = get_or-set_same row k leg no_leg lt
+taken_at count row k d lt le = get_or-take count (map (λ (l : Linked). l.leg) row) k no_leg lt ∙ get_or-map (λ (l : Linked). l.leg) row k d no_leg (omega arith)
 
-at_set_other : (row : List Leg) (k i : ℕ) (leg : Leg) → (i ≡ k → ⊥) → at (set row k leg) i ≡ at row i
-unfolding at
-at_set_other row k i leg ne = get_or-set_other row k i leg no_leg ne
-
-pub copied_more : (legs row : List Leg) (k : ℕ) (leg : Leg) → length legs ≤ max_legs → k < length legs → leg ≡ at legs k → Copied legs row k → Copied legs (set row k leg) (k + 1)
-copied_more legs row k leg few lt is c = record {
-  whole = length-set row k leg ∙ c.whole;
-  same = λ i h. ⊎_elim
-      (λ e. subst (λ x. at (set row k leg) x ≡ at legs x) (sym e) (at_set_same row k leg (omega (arith, c.whole)) ∙ is))
-      (λ ne. at_set_other row k i leg ne ∙ c.same i (omega arith))
-      (cases_eq i k);
+pub chained_none : (legs : List Leg) (next : List (Option ℕ)) → Chained legs (length legs) (replicate max_fixes None) next
+chained_none legs next = record {
+  heads = length-replicate {A = Option ℕ} max_fixes None;
+  starts = λ v h. subst (λ j. FirstLeg legs v (length legs) j) (sym (get_or-replicate {A = Option ℕ} max_fixes v None None h)) (λ k a b e. omega arith);
+  goes = λ k a b. absurd (let z : k < length legs = b in omega arith);
 }
 
-pub copied_all : (legs row : List Leg) → length legs ≤ max_legs → Copied legs row (length legs) → take (length legs) row ≡ legs
-unfolding at
-copied_all legs row few c =
-    let e = length-take (length legs) row in
-    let l : length (take (length legs) row) ≡ length legs = omega (arith, c.whole) in
-    ext_get_or no_leg (take (length legs) row) legs l (λ i h. let b : i < length legs = omega arith in get_or-take (length legs) row i no_leg b ∙ c.same i b)
-
-pub linked_none : (row : List Leg) (count : ℕ) (next : List ℕ) → count ≤ max_legs → length next ≡ max_legs → Linked row count count (replicate max_fixes max_legs) next
-linked_none row count next few ln = record {
-  heads = length-replicate {A = ℕ} max_fixes max_legs;
-  links = ln;
-  starts = λ v h. subst (λ j. Lowest row count v count j) (sym (get_or-replicate {A = ℕ} max_fixes v max_legs 0 h)) (record { above = few; leaves = λ b. absurd (let z : max_legs < count = b in omega arith); gap = λ k a b c e. omega arith });
-  goes = λ k a b. absurd (let z : k < count = b in omega arith);
+-- where the leg k does not leave v, the first leg from k on is the first one after it
+pub first_below : (legs : List Leg) (k v : ℕ) (r : Option ℕ) → (v ≡ (at legs k).from → ⊥) → FirstLeg legs v (k + 1) r → FirstLeg legs v k r
+first_below legs k v None ne h = λ i a b e. ⊎_elim (λ ik. ne (sym e ∙ ap (λ x. (at legs x).from) ik)) (λ nik. h i (omega arith) b e) (cases_eq i k)
+first_below legs k v (Some j) ne h = record {
+  there = h.there;
+  above = omega (arith, h.above);
+  leaves = h.leaves;
+  gap = λ i a b e. ⊎_elim (λ ik. ne (sym e ∙ ap (λ x. (at legs x).from) ik)) (λ nik. h.gap i (omega arith) b e) (cases_eq i k);
 }
 
-module _ (row : List Leg) (count k : ℕ) (first next : List ℕ) (fair : Fair row count) (lt : k < count) (l : Linked row count (k + 1) first next) where
-  in_first : (at row k).from < length first
-  in_first = omega (arith, l.heads, fair.leaves k lt)
+module _ (legs : List Leg) (k : ℕ) (first next : List (Option ℕ)) (lt : k < length legs) (fits : (at legs k).from < max_fixes) (room : k < length next) (l : Chained legs (k + 1) first next) where
+  head_here : FirstLeg legs (at legs k).from k (Some k)
+  head_here = record { there = lt; above = omega arith; leaves = refl; gap = λ i a b e. omega arith }
 
-  in_next : k < length next
-  in_next = omega (arith, l.links, fair.filled)
+  pub chained_more : Chained legs k (set first (at legs k).from (Some k)) (set next k (get_or first (at legs k).from None))
+  chained_more =
+      let from = (at legs k).from in
+      let in_first : from < length first = omega (arith, l.heads) in
+      record {
+        heads = length-set first from (Some k) ∙ l.heads;
+        starts = λ v h. ⊎_elim
+            (λ e. subst (λ x. FirstLeg legs x k (get_or (set first from (Some k)) x None)) (sym e) (subst (λ j. FirstLeg legs from k j) (sym (get_or-set_same first from (Some k) None in_first)) head_here))
+            (λ ne. subst (λ j. FirstLeg legs v k j) (sym (get_or-set_other first from v (Some k) None ne)) (first_below legs k v (get_or first v None) ne (l.starts v h)))
+            (cases_eq v from);
+        goes = λ i a b. ⊎_elim
+            (λ e. subst (λ x. FirstLeg legs (at legs x).from (x + 1) (get_or (set next k (get_or first from None)) x None)) (sym e) (subst (λ j. FirstLeg legs from (k + 1) j) (sym (get_or-set_same next k (get_or first from None) None room)) (l.starts from fits)))
+            (λ ne. subst (λ j. FirstLeg legs (at legs i).from (i + 1) j) (sym (get_or-set_other next k i (get_or first from None) None ne)) (l.goes i (omega arith) b))
+            (cases_eq i k);
+      }
 
-  head_here : Lowest row count (at row k).from k k
-  head_here = record { above = omega arith; leaves = λ _. refl; gap = λ i a b c e. omega arith }
+-- the leg k of a row is linked, as the code reads it
+module _ (row : List Linked) (count k : ℕ) (first : List (Option ℕ)) (d : Linked) (fair : Fair row count) (lt : k < count) where
+  length_nexts : length (nexts row) ≡ max_legs
+  length_nexts = length-map row (λ (l : Linked). l.next) ∙ fair.whole
 
-  -- the leg k does not leave v
-  head_other : (v j : ℕ) → (v ≡ (at row k).from → ⊥) → Lowest row count v (k + 1) j → Lowest row count v k j
-  head_other v j ne h = record {
-    above = omega (arith, h.above);
-    leaves = h.leaves;
-    gap = λ i a b c e. ⊎_elim (λ ik. ne (sym e ∙ ap (λ x. (at row x).from) ik)) (λ nik. h.gap i (omega arith) b c e) (cases_eq i k);
-  }
+  pub linked_same : (next : Option ℕ) → taken count (set row k (record { leg = (get_or row k d).leg; next = next })) ≡ taken count row
+  linked_same next = ap (λ ls. take count ls) (map-set_same (λ (l : Linked). l.leg) row k (record { leg = (get_or row k d).leg; next = next }) d refl)
 
-  linked_more : Linked row count k (set first (at row k).from k) (set next k (get_or first (at row k).from 0))
-  linked_more = record {
-    heads = length-set first (at row k).from k ∙ l.heads;
-    links = length-set next k (get_or first (at row k).from 0) ∙ l.links;
-    starts = λ v h. ⊎_elim
-        (λ e. subst (λ x. Lowest row count x k (get_or (set first (at row k).from k) x 0)) (sym e) (subst (λ j. Lowest row count (at row k).from k j) (sym (get_or-set_same first (at row k).from k 0 in_first)) head_here))
-        (λ ne. subst (λ j. Lowest row count v k j) (sym (get_or-set_other first (at row k).from v k 0 ne)) (head_other v (get_or first v 0) ne (l.starts v h)))
-        (cases_eq v (at row k).from);
-    goes = λ i a b. ⊎_elim
-        (λ e. subst (λ x. Lowest row count (at row x).from (x + 1) (get_or (set next k (get_or first (at row k).from 0)) x 0)) (sym e) (subst (λ j. Lowest row count (at row k).from (k + 1) j) (sym (get_or-set_same next k (get_or first (at row k).from 0) 0 in_next)) (l.starts (at row k).from (fair.leaves k lt))))
-        (λ ne. subst (λ j. Lowest row count (at row i).from (i + 1) j) (sym (get_or-set_other next k i (get_or first (at row k).from 0) 0 ne)) (l.goes i (omega arith) b))
-        (cases_eq i k);
-  }
+  read : at (taken count row) k ≡ (get_or row k d).leg
+  read = taken_at count row k d lt (omega (arith, fair.whole, fair.filled))
 
-  -- the same, by the leg as it is read
-  module _ (leg : Leg) (read : leg ≡ get_or row k leg) where
-    same : at row k ≡ leg
-    unfolding at
-    same = sym (get_or_read row k leg (omega (arith, fair.whole, fair.filled)) read no_leg)
+  pub leaves_in_first : length first ≡ max_fixes → (get_or row k d).leg.from < length first
+  leaves_in_first e = let l = fair.leaves k lt in subst (λ (x : Leg). x.from < length first) read (omega arith)
 
-    pub leaves_in_first : leg.from < length first
-    leaves_in_first = subst (λ (l : Leg). l.from < length first) same in_first
+  pub linked_more : Chained (taken count row) (k + 1) first (nexts row) → Chained (taken count row) k (set first (get_or row k d).leg.from (Some k)) (nexts (set row k (record { leg = (get_or row k d).leg; next = get_or first (get_or row k d).leg.from None })))
+  linked_more c =
+      let n = taken_length count row fair.whole fair.filled in
+      let more = chained_more (taken count row) k first (nexts row) (omega arith) (fair.leaves k lt) (omega (arith, length_nexts, fair.filled)) c in
+      let put = map-set (λ (l : Linked). l.next) row k (record { leg = (get_or row k d).leg; next = get_or first (get_or row k d).leg.from None }) in
+      subst (λ ns. Chained (taken count row) k (set first (get_or row k d).leg.from (Some k)) ns) (sym put)
+      (subst (λ (x : Leg). Chained (taken count row) k (set first x.from (Some k)) (set (nexts row) k (get_or first x.from None))) read more)
 
-    pub linked_by_leg : Linked row count k (set first leg.from k) (set next k (get_or first leg.from 0))
-    linked_by_leg = subst (λ (l : Leg). Linked row count k (set first l.from k) (set next k (get_or first l.from 0))) same linked_more
+pub copied_more : (legs : List Leg) (row : List Linked) (k : ℕ) (new : Linked) → length row ≡ max_legs → length legs ≤ max_legs → k < length legs → new.leg ≡ at legs k → taken k row ≡ take k legs → taken (k + 1) (set row k new) ≡ take (k + 1) legs
+unfolding at
+copied_more legs row k new whole few lt is c =
+    let n = length-map row (λ (l : Linked). l.leg) in
+    ap (λ ls. take (k + 1) ls) (map-set (λ (l : Linked). l.leg) row k new)
+    ∙ take_more_set (map (λ (l : Linked). l.leg) row) k new.leg (omega arith)
+    ∙ ap (λ ls. ls ++ new.leg ∷ []) c
+    ∙ ap (λ l. take k legs ++ l ∷ []) is
+    ∙ sym (take_more legs k no_leg lt)
 
-pub fair_copied : (legs row : List Leg) (fixes count : ℕ) → Charted fixes legs → count ≡ length legs → Copied legs row (length legs) → Fair row count
-fair_copied legs row fixes count charted e c = record {
-  whole = c.whole;
+pub fair_copied : (legs : List Leg) (row : List Linked) (fixes count : ℕ) → Charted fixes legs → count ≡ length legs → length row ≡ max_legs → taken count row ≡ legs → Fair row count
+fair_copied legs row fixes count charted e whole same = record {
+  whole = whole;
   filled = omega (arith, charted.few);
-  leaves = λ k h. let b : k < length legs = omega arith in let p = charted.leaves k b in let m = charted.most in subst (λ (x : Leg). x.from < max_fixes) (sym (c.same k b)) (omega arith);
+  leaves = subst (λ ls. (k : ℕ) → k < count → (at ls k).from < max_fixes) (sym same) (λ k h. let l = charted.leaves k (omega arith) in omega (arith, charted.most));
 }
-
--- no leg of the fix comes before the lowest
-pub lowest_first : (row : List Leg) (count v k low j : ℕ) → Lowest row count v low j → low ≤ k → k < count → (at row k).from ≡ v → j ≤ k
-lowest_first row count v k low j l a b e = ⊎_elim (λ h. absurd (l.gap k a h b e)) (λ h. h) (cases_lt k j)

@@ -1,11 +1,15 @@
--- One mark changed: which fixes are known and done then, and how many are done.
+-- One mark changed: which fixes are known and done then, and how many are done. And a total is as good as itself.
 use Rattle.std.proofs.Common.{◌≡◌, ℕ, ◌+◌, ◌<◌, cond, List, length, set, sym, refl, ◌∙◌, subst, ⊎_elim, arith, length-set}
 use Rattle.std.proofs.lemmas.List.{get_or-set_same, get_or-set_other, get_or_past}
 use Rattle.std.proofs.lemmas.List.Sums.{sum_by-set, count_by-le-length}
 use Rattle.std.proofs.lemmas.Bool.{cases_eq, cases_lt}
+use Rattle.chart.specs.Kinds.{Rule, Laws}
 use Rattle.search.specs.declared.mark.Mark.{Mark}
 use Rattle.search.specs.declared.mark.Mark.TheVariants.{Blank, Reached, Settled}
 use Rattle.search.specs.Labels.{mark_at, Known, Done, is_done, done}
+
+pub as_good_as_itself : {T : Type 0} {rule : Rule T} → Laws rule → (a : T) → rule.order a a
+as_good_as_itself laws a = ⊎_elim (λ x. x) (λ x. x) (laws.compares a a)
 
 pub reached_settled : (m : Mark) → m ≡ Reached → m ≡ Settled → ⊥
 reached_settled m p r = let z : ◌≡◌ {A = ℕ} 0 1 = cc in omega arith

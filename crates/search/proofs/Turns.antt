@@ -1,15 +1,14 @@
 -- A fix is settled, the search goes from one of its legs to the next, and the turn ends.
-use Rattle.std.proofs.Common.{◌≡◌, ℕ, ◌<◌, ◌≤◌, List, length, set, sym, refl, ◌∙◌, subst, ⊎_elim, arith, length-set}
+use Rattle.std.proofs.Common.{◌≡◌, ℕ, ◌<◌, ◌≤◌, List, length, Some, None, set, sym, refl, ◌∙◌, subst, ⊎_elim, arith, length-set}
 use Rattle.std.proofs.lemmas.Bool.{cases_eq, cases_lt}
 use Rattle.chart.specs.Legs.{at}
 use Rattle.chart.specs.Kinds.{Laws}
 use Rattle.search.specs.declared.mark.Mark.{Mark}
 use Rattle.search.specs.declared.mark.Mark.TheVariants.{Settled}
-use Rattle.search.specs.Index.{Lowest}
+use Rattle.search.specs.Index.{FirstLeg}
 use Rattle.search.specs.Labels.{label_at, Known, Done, Pick}
 use Rattle.search.specs.State.{Quest, Rest, Turn}
-use Rattle.search.proofs.Choosing.{as_good_as_itself}
-use Rattle.search.proofs.Marks.{reached_settled, reached_blank, settled_blank, only_reached, known_small, mark_here, mark_other, done_on, known_on, known_back, done_more}
+use Rattle.search.proofs.Marks.{as_good_as_itself, reached_settled, reached_blank, settled_blank, only_reached, known_small, mark_here, mark_other, done_on, known_on, known_back, done_more}
 
 module _ {T : Type 0} (q : Quest T) (laws : Laws q.rule) (label : List T) (mark : List Mark) (rest : Rest q label mark) (u : ℕ) (pick : Pick q.rule label mark q.fixes u) where
   undone : Done mark u → ⊥
@@ -78,7 +77,7 @@ module _ {T : Type 0} (q : Quest T) (laws : Laws q.rule) (label : List T) (mark 
 
 -- where the legs of u from i on begin with the leg j, or there are none
 module _ {T : Type 0} (q : Quest T) (label : List T) (mark : List Mark) (u i j : ℕ) (turn : Turn q label mark u i) where
-  pub turn_skips : ((k : ℕ) → i ≤ k → k < j → k < length q.legs → (at q.legs k).from ≡ u → ⊥) → Turn q label mark u j
+  turn_skips : ((k : ℕ) → i ≤ k → k < j → k < length q.legs → (at q.legs k).from ≡ u → ⊥) → Turn q label mark u j
   turn_skips gap = record {
     state = record {
       labels = turn.state.labels;
@@ -100,8 +99,11 @@ module _ {T : Type 0} (q : Quest T) (label : List T) (mark : List Mark) (u i j :
     last = turn.last;
   }
 
-  pub turn_goes_to_lowest : (v : ℕ) → v ≡ u → Lowest q.legs (length q.legs) v i j → Turn q label mark u j
-  turn_goes_to_lowest v e low = turn_skips (λ k a b c f. low.gap k a b c (f ∙ sym e))
+  pub turn_goes_on : FirstLeg q.legs u i (Some j) → Turn q label mark u j
+  turn_goes_on low = turn_skips (λ k a b c e. low.gap k a b e)
+
+  pub turn_goes_past : FirstLeg q.legs u i None → j ≡ length q.legs → Turn q label mark u j
+  turn_goes_past none e = turn_skips (λ k a b c f. none k a c f)
 
 -- once its legs are eased, u is a settled fix like any other
 pub turn_ends : {T : Type 0} (q : Quest T) (label : List T) (mark : List Mark) (u : ℕ) → Turn q label mark u (length q.legs) → Rest q label mark

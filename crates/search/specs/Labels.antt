@@ -1,7 +1,6 @@
 -- What the labels and marks of a search say of the fixes, and which fix is picked.
-use Rattle.std.specs.Prelude.{◌≡◌, ℕ, ◌<◌, Bool, true, false, cond, List, Some, None, count_by, Option, ◌≢◌, nat_lt, slice_index_or}
+use Rattle.std.specs.Prelude.{◌≡◌, ℕ, ◌<◌, Bool, true, false, List, Some, None, count_by, Option, ◌≢◌, slice_index_or}
 use Rattle.chart.specs.Kinds.{Rule}
-use Rattle.chart.specs.Limits.{max_fixes}
 use Rattle.search.specs.declared.mark.Mark.{Mark}
 use Rattle.search.specs.declared.mark.Mark.TheVariants.{Blank, Reached, Settled}
 
@@ -38,7 +37,3 @@ pub record Pick {T : Type 0} (rule : Rule T) (label : List T) (mark : List Mark)
 abbrev pub Picked : {T : Type 0} → Rule T → List T → List Mark → ℕ → Option ℕ → Type 0
 Picked rule label mark n None = (w : ℕ) → w < n → mark_at mark w ≢ Reached
 Picked rule label mark n (Some u) = Pick rule label mark n u
-
--- the fix b, or none from the most fixes on
-unfoldable pub found : ℕ → Option ℕ
-found b = cond (nat_lt b max_fixes) (Some b) None

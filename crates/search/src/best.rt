@@ -6,34 +6,27 @@ ghost use Rattle.search.specs.declared.mark.Mark.TheVariants.{Blank};
 ghost use Rattle.search.specs.Snapshots.{fixes_of, legs_of};
 
 use super::mark::Mark;
-use super::picking::pick;
-use super::settling::settle;
 use super::snapshot::Snapshot;
+use super::state::Search;
 use chart::charts::Chart;
 use chart::kinds::Kind;
 use chart::limits::MAX_FIXES;
 
-// The search between two fixes, over labels that are all the start and marks that are all blank.
-fn run<K: Kind>(
-    snapshot: &Snapshot,
-    kind: &K,
-    label: &mut [K::Total],
-    mark: &mut [Mark],
-    departure: usize,
-    destination: usize,
-) -> Option<K::Total>
-    requires ends { (departure < fixes_of snapshot.now) × (destination < fixes_of snapshot.now) × (departure ≢ destination) }
-    requires blank { (label.old ≡ replicate max_fixes (K.rule kind.now).start) × (mark.old ≡ replicate max_fixes Blank) }
-    ensures { BestTotal (K.rule kind.now) (legs_of snapshot.now) departure destination result }
-{
-    let fixes = snapshot.fixes as usize;
-    mark[departure] = Mark::Reached;
-    while let Some(u) = pick(kind, label, mark, fixes) {
-        settle(snapshot, kind, label, mark, u);
-    }
-    match mark[destination] {
-        Mark::Blank => None,
-        _ => Some(label[destination]),
+impl<'a, K: Kind> Search<'a, K> {
+    // The search between two fixes, over labels that are all the start and marks that are all blank.
+    fn run(&mut self, departure: usize, destination: usize) -> Option<K::Total>
+        requires ends { (departure < fixes_of self.old.snapshot.now) × (destination < fixes_of self.old.snapshot.now) × (departure ≢ destination) }
+        requires blank { (self.old.label.now ≡ replicate max_fixes (K.rule self.old.kind.now).start) × (self.old.mark.now ≡ replicate max_fixes Blank) }
+        ensures { BestTotal (K.rule self.old.kind.now) (legs_of self.old.snapshot.now) departure destination result }
+    {
+        self.mark[departure] = Mark::Reached;
+        while let Some(u) = self.pick() {
+            self.settle(u);
+        }
+        match self.mark[destination] {
+            Mark::Blank => None,
+            _ => Some(self.label[destination]),
+        }
     }
 }
 
@@ -58,14 +51,13 @@ pub fn best_on<K: Kind>(
     }
     let mut label = [kind.start(); MAX_FIXES];
     let mut mark = [Mark::Blank; MAX_FIXES];
-    run(
+    let mut search = Search {
         snapshot,
         kind,
-        &mut label,
-        &mut mark,
-        departure as usize,
-        destination as usize,
-    )
+        label: &mut label,
+        mark: &mut mark,
+    };
+    search.run(departure as usize, destination as usize)
 }
 
 // The best total over all routes of a chart from the departure to the destination, as `best_on` has it.

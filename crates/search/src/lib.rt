@@ -2,9 +2,12 @@
 #![tactic(auto)]
 
 pub mod best;
+pub mod legs_from;
+mod linked;
 mod mark;
 mod picking;
 pub mod questions;
 mod settling;
 pub mod snapshot;
+mod state;
 mod taking;

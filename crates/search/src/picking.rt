@@ -1,45 +1,26 @@
 // Which fix is settled next: the best of those that are reached and not settled.
-ghost use Rattle.std.specs.Prelude.{◌≡◌, ◌+◌, ◌<◌, ◌≤◌, length};
-ghost use Rattle.chart.specs.Limits.{max_fixes};
-ghost use Rattle.search.specs.Labels.{Picked, found};
+ghost use Rattle.search.specs.Labels.{Picked};
+ghost use Rattle.search.specs.Snapshots.{fixes_of};
 
 use super::mark::Mark;
+use super::state::Search;
 use chart::kinds::Kind;
-use chart::limits::MAX_FIXES;
 
-// The best so far, once the fix `v` is looked at too; from MAX_FIXES on, none.
-fn look<K: Kind>(kind: &K, label: &[K::Total], mark: &[Mark], best: usize, v: usize) -> usize
-    requires sizes { (length label.now ≡ max_fixes) × (length mark.now ≡ max_fixes) × (v < max_fixes) }
-    requires before { Picked (K.rule kind.now) label.now mark.now v (found best) }
-    ensures { Picked (K.rule kind.now) label.now mark.now (v + 1) (found result) }
-{
-    match mark[v] {
-        Mark::Reached => {
-            if best >= MAX_FIXES {
-                return v;
+impl<'a, K: Kind> Search<'a, K> {
+    // The best of the fixes that are reached.
+    pub(crate) fn pick(&self) -> Option<usize>
+        ensures { Picked (K.rule self.now.kind.now) self.now.label.now self.now.mark.now (fixes_of self.now.snapshot.now) result }
+    {
+        let fixes = self.snapshot.fixes as usize;
+        let mut best = None;
+        for (v, mark) in self.mark[..fixes].iter().enumerate() {
+            if let Mark::Reached = mark {
+                best = match best {
+                    Some(u) if !self.kind.better(self.label[v], self.label[u]) => Some(u),
+                    _ => Some(v),
+                };
             }
-            if kind.better(label[v], label[best]) {
-                return v;
-            }
-            best
         }
-        _ => best,
+        best
     }
-}
-
-// The best of the first `fixes` fixes that are reached. The loop is faster on plain numbers than on options.
-pub(crate) fn pick<K: Kind>(
-    kind: &K,
-    label: &[K::Total],
-    mark: &[Mark],
-    fixes: usize,
-) -> Option<usize>
-    requires { (length label.now ≡ max_fixes) × (length mark.now ≡ max_fixes) × (fixes ≤ max_fixes) }
-    ensures { Picked (K.rule kind.now) label.now mark.now fixes result }
-{
-    let mut best = MAX_FIXES;
-    for v in 0..fixes {
-        best = look(kind, label, mark, best, v);
-    }
-    if best < MAX_FIXES { Some(best) } else { None }
 }

@@ -1,11 +1,11 @@
 // What a snapshot answers: it is a chart, and it knows the legs that leave a fix.
-ghost use Rattle.std.specs.Prelude.{◌≡◌, ◌+◌, ◌<◌, length};
+ghost use Rattle.std.specs.Prelude.{◌≡◌, ◌<◌, length};
 ghost use Rattle.chart.specs.Legs.{at};
-ghost use Rattle.chart.specs.Limits.{max_fixes};
-ghost use Rattle.search.specs.Snapshots.{fixes_of, legs_of, FirstLeg, NextLeg};
+ghost use Rattle.search.specs.Index.{FirstLeg, leaving};
+ghost use Rattle.search.specs.Snapshots.{fixes_of, legs_of, NextLeg};
 ghost use Rattle.search.specs.Sound.{snapshot_charted};
-ghost use Rattle.search.specs.Index.{Lowest};
 
+use super::legs_from::LegsFrom;
 use super::snapshot::Snapshot;
 use chart::charts::Chart;
 use chart::leg::Leg;
@@ -27,7 +27,7 @@ impl Chart for Snapshot {
 
     fn leg(&self, k: u16) -> Option<Leg> {
         if k < self.count {
-            return Some(self.legs[k as usize]);
+            return Some(self.leg_at(k));
         }
         None
     }
@@ -41,12 +41,7 @@ impl Snapshot {
         if fix >= self.fixes {
             return None;
         }
-        let first = self.first_from(fix as usize);
-        if first < self.count {
-            Some(first)
-        } else {
-            None
-        }
+        self.first[fix as usize]
     }
 
     // The first leg after the leg `k` that leaves the same fix; none where `k` is no leg's number.
@@ -56,8 +51,17 @@ impl Snapshot {
         if k >= self.count {
             return None;
         }
-        let next = self.next_after(k);
-        if next < self.count { Some(next) } else { None }
+        self.legs[k as usize].next
+    }
+
+    // The numbers of the legs that leave a fix, rising.
+    pub fn legs_from(&self, fix: u16) -> LegsFrom<'_>
+        ensures { result ≡ leaving (legs_of self.now) fix 0 }
+    {
+        LegsFrom {
+            snapshot: self,
+            next: self.first_leg(fix),
+        }
     }
 
     // The leg of a number.
@@ -65,22 +69,6 @@ impl Snapshot {
         requires { k < length (legs_of self.now) }
         ensures { result ≡ at (legs_of self.now) k }
     {
-        self.legs[k as usize]
-    }
-
-    // The first leg that leaves a fix, or a number past all legs: a loop is faster on plain numbers.
-    pub(crate) fn first_from(&self, fix: usize) -> u16
-        requires { fix < max_fixes }
-        ensures { Lowest (legs_of self.now) (length (legs_of self.now)) fix 0 result }
-    {
-        self.first[fix]
-    }
-
-    // The first leg after the leg `k` that leaves the same fix, or a number past all legs.
-    pub(crate) fn next_after(&self, k: u16) -> u16
-        requires { k < length (legs_of self.now) }
-        ensures { Lowest (legs_of self.now) (length (legs_of self.now)) (at (legs_of self.now) k).from (k + 1) result }
-    {
-        self.next[k as usize]
+        self.legs[k as usize].leg
     }
 }

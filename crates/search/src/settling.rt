@@ -8,86 +8,72 @@ ghost use Rattle.search.specs.Snapshots.{fixes_of, legs_of};
 ghost use Rattle.search.specs.State.{AtRest, InTurn, Advances, Settles, Offered};
 
 use super::mark::Mark;
-use super::snapshot::Snapshot;
+use super::state::Search;
 use chart::kinds::Kind;
 use chart::row::Standing;
 
-// Takes `total` as the label of the fix `to`, which is not settled, unless its label is as good.
-fn offer<K: Kind>(kind: &K, label: &mut [K::Total], mark: &mut [Mark], to: usize, total: K::Total)
-    requires sizes { (length label.old ≡ max_fixes) × (length mark.old ≡ max_fixes) × (to < max_fixes) }
-    requires undone { Done mark.old to → ⊥ }
-    ensures { Offered (K.rule kind.now) label.old mark.old to total label.new mark.new }
-{
-    match mark[to] {
-        Mark::Blank => {
-            label[to] = total;
-            mark[to] = Mark::Reached;
-        }
-        _ => {
-            if kind.better(total, label[to]) {
-                label[to] = total;
-                mark[to] = Mark::Reached;
+impl<'a, K: Kind> Search<'a, K> {
+    // Takes `total` as the label of the fix `to`, which is not settled, unless its label is as good.
+    fn offer(&mut self, to: usize, total: K::Total)
+        requires fix { to < max_fixes }
+        requires undone { Done self.old.mark.now to → ⊥ }
+        ensures same { (self.new.snapshot.now ≡ self.old.snapshot.now) × (self.new.kind.now ≡ self.old.kind.now) }
+        ensures offered { Offered (K.rule self.old.kind.now) self.old.label.now self.old.mark.now to total self.new.label.now self.new.mark.now }
+    {
+        match self.mark[to] {
+            Mark::Blank => {
+                self.label[to] = total;
+                self.mark[to] = Mark::Reached;
+            }
+            _ => {
+                if self.kind.better(total, self.label[to]) {
+                    self.label[to] = total;
+                    self.mark[to] = Mark::Reached;
+                }
             }
         }
     }
-}
 
-// Eases the leg `j`, which leaves the fix `u`, which was settled last. A settled fix is left out before the
-// leg is added: no total is then made of more legs than a route can have.
-fn ease<K: Kind>(
-    snapshot: &Snapshot,
-    kind: &K,
-    label: &mut [K::Total],
-    mark: &mut [Mark],
-    u: usize,
-    j: u16,
-)
-    requires turn { InTurn (K.rule kind.now) snapshot.now label.old mark.old u j }
-    requires leg { (j < length (legs_of snapshot.now)) × ((at (legs_of snapshot.now) j).from ≡ u) }
-    ensures { Advances (K.rule kind.now) snapshot.now u j (j + 1) label.old mark.old label.new mark.new }
-{
-    let leg = snapshot.leg_at(j);
-    if let Standing::Closed = leg.standing {
-        return;
+    // Eases the leg `j`, which leaves the fix `u`, which was settled last. A settled fix is left out before the
+    // leg is added: no total is then made of more legs than a route can have.
+    fn ease(&mut self, u: usize, j: u16)
+        requires turn { InTurn (K.rule self.old.kind.now) self.old.snapshot.now self.old.label.now self.old.mark.now u j }
+        requires leg { (j < length (legs_of self.old.snapshot.now)) × ((at (legs_of self.old.snapshot.now) j).from ≡ u) }
+        ensures same { (self.new.snapshot.now ≡ self.old.snapshot.now) × (self.new.kind.now ≡ self.old.kind.now) }
+        ensures advances { Advances (K.rule self.old.kind.now) self.old.snapshot.now u j (j + 1) self.old.label.now self.old.mark.now self.new.label.now self.new.mark.now }
+    {
+        let leg = self.snapshot.leg_at(j);
+        if let Standing::Closed = leg.standing {
+            return;
+        }
+        let to = leg.to as usize;
+        if let Mark::Settled = self.mark[to] {
+            return;
+        }
+        let total = self.kind.add(self.label[u], j, &leg);
+        self.offer(to, total);
     }
-    let to = leg.to as usize;
-    if let Mark::Settled = mark[to] {
-        return;
-    }
-    let total = kind.add(label[u], j, &leg);
-    offer(kind, label, mark, to, total);
-}
 
-// Eases every leg of the fix `u`, which was settled last.
-fn ease_legs<K: Kind>(
-    snapshot: &Snapshot,
-    kind: &K,
-    label: &mut [K::Total],
-    mark: &mut [Mark],
-    u: usize,
-)
-    requires { InTurn (K.rule kind.now) snapshot.now label.old mark.old u 0 }
-    ensures { Advances (K.rule kind.now) snapshot.now u 0 (length (legs_of snapshot.now)) label.old mark.old label.new mark.new }
-{
-    let mut j = snapshot.first_from(u);
-    while j < snapshot.count {
-        ease(snapshot, kind, label, mark, u, j);
-        j = snapshot.next_after(j);
+    // Eases every leg of the fix `u`, which was settled last.
+    fn ease_legs(&mut self, u: u16)
+        requires { InTurn (K.rule self.old.kind.now) self.old.snapshot.now self.old.label.now self.old.mark.now u 0 }
+        ensures same { (self.new.snapshot.now ≡ self.old.snapshot.now) × (self.new.kind.now ≡ self.old.kind.now) }
+        ensures advances { Advances (K.rule self.old.kind.now) self.old.snapshot.now u 0 (length (legs_of self.old.snapshot.now)) self.old.label.now self.old.mark.now self.new.label.now self.new.mark.now }
+    {
+        let snapshot = self.snapshot;
+        for j in snapshot.legs_from(u) {
+            self.ease(u as usize, j);
+        }
     }
-}
 
-// Settles the fix `u`, the best of those that are reached, and eases its legs.
-pub(crate) fn settle<K: Kind>(
-    snapshot: &Snapshot,
-    kind: &K,
-    label: &mut [K::Total],
-    mark: &mut [Mark],
-    u: usize,
-)
-    requires rest { AtRest (K.rule kind.now) snapshot.now label.old mark.old }
-    requires pick { Pick (K.rule kind.now) label.old mark.old (fixes_of snapshot.now) u }
-    ensures { Settles (K.rule kind.now) snapshot.now label.old mark.old label.new mark.new }
-{
-    mark[u] = Mark::Settled;
-    ease_legs(snapshot, kind, label, mark, u);
+    // Settles the fix `u`, the best of those that are reached, and eases its legs.
+    pub(crate) fn settle(&mut self, u: usize)
+        requires rest { AtRest (K.rule self.old.kind.now) self.old.snapshot.now self.old.label.now self.old.mark.now }
+        requires pick { Pick (K.rule self.old.kind.now) self.old.label.now self.old.mark.now (fixes_of self.old.snapshot.now) u }
+        ensures same { (self.new.snapshot.now ≡ self.old.snapshot.now) × (self.new.kind.now ≡ self.old.kind.now) }
+        ensures settles { Settles (K.rule self.old.kind.now) self.old.snapshot.now self.old.label.now self.old.mark.now self.new.label.now self.new.mark.now }
+    {
+        self.mark[u] = Mark::Settled;
+        self.ease_legs(u as u16);
+    }
 }

@@ -1,56 +1,53 @@
 // How a snapshot is taken: the legs are copied, and then linked from the last to the first.
-ghost use Rattle.std.specs.Prelude.{◌≡◌, ◌+◌, ◌<◌, length, replicate};
+ghost use Rattle.std.specs.Prelude.{◌≡◌, ◌+◌, ◌<◌, ◌≤◌, length, replicate, None};
 ghost use Rattle.chart.specs.Limits.{max_fixes, max_legs};
+ghost use Rattle.search.specs.Index.{taken, nexts, Fair, Chained};
 ghost use Rattle.search.specs.Snapshots.{fixes_of, legs_of};
-ghost use Rattle.search.specs.Index.{Copied, Fair, Linked};
 
+use super::linked::Linked;
 use super::snapshot::Snapshot;
 use chart::charts::Chart;
 use chart::leg::Leg;
 use chart::limits::{MAX_FIXES, MAX_LEGS};
 use chart::row::Standing;
 
-// Copies the leg `k`.
-fn copy_leg<C: Chart>(chart: &C, row: &mut [Leg], k: u16)
-    requires { Copied (C.legs chart.now) row.old k × (k < length (C.legs chart.now)) }
-    ensures { Copied (C.legs chart.now) row.new (k + 1) }
-{
-    if let Some(leg) = chart.leg(k) {
-        row[k as usize] = leg;
-    }
-}
-
-// Copies every leg.
-fn copy_legs<C: Chart>(chart: &C, row: &mut [Leg])
+// Copies every leg. The loop counts, since a chart answers by the number of a leg.
+fn copy_legs<C: Chart>(chart: &C, row: &mut [Linked])
     requires { length row.old ≡ max_legs }
-    ensures { Copied (C.legs chart.now) row.new (length (C.legs chart.now)) }
+    ensures { taken (length (C.legs chart.now)) row.new ≡ C.legs chart.now }
 {
     for k in 0..chart.m() {
-        copy_leg(chart, row, k);
+        if let Some(leg) = chart.leg(k) {
+            row[k as usize] = Linked { leg, next: None };
+        }
     }
 }
 
 // Puts the leg `k` before those of its fix that have a higher number.
-fn link(row: &[Leg], first: &mut [u16], next: &mut [u16], k: u16, count: u16)
-    requires fair { Fair row.now count × (k < count) }
-    requires linked { Linked row.now count (k + 1) first.old next.old }
-    ensures { Linked row.now count k first.new next.new }
+fn link(row: &mut [Linked], first: &mut [Option<u16>], k: u16, count: u16)
+    requires fair { Fair row.old count × (k < count) }
+    requires chained { Chained (taken count row.old) (k + 1) first.old (nexts row.old) }
+    ensures same { taken count row.new ≡ taken count row.old }
+    ensures chained { Chained (taken count row.old) k first.new (nexts row.new) }
 {
-    let leg = row[k as usize];
+    let leg = row[k as usize].leg;
     let from = leg.from as usize;
-    let head = first[from];
-    next[k as usize] = head;
-    first[from] = k;
+    row[k as usize] = Linked {
+        leg,
+        next: first[from],
+    };
+    first[from] = Some(k);
 }
 
 // Links every leg. From the last to the first, a fix's first leg so far is the next of the new one.
-fn link_legs(row: &[Leg], first: &mut [u16], next: &mut [u16], count: u16)
-    requires fair { Fair row.now count }
-    requires none { (first.old ≡ replicate max_fixes max_legs) × (length next.old ≡ max_legs) }
-    ensures { Linked row.now count 0 first.new next.new }
+fn link_legs(row: &mut [Linked], first: &mut [Option<u16>], count: u16)
+    requires fair { Fair row.old count }
+    requires none { first.old ≡ replicate max_fixes None }
+    ensures same { taken count row.new ≡ taken count row.old }
+    ensures chained { Chained (taken count row.old) 0 first.new (nexts row.new) }
 {
     for k in (0..count).rev() {
-        link(row, first, next, k, count);
+        link(row, first, k, count);
     }
 }
 
@@ -70,17 +67,18 @@ impl Snapshot {
         };
         let fixes = chart.n();
         let count = chart.m();
-        let mut legs = [blank; MAX_LEGS];
-        let mut first = [MAX_LEGS as u16; MAX_FIXES];
-        let mut next = [MAX_LEGS as u16; MAX_LEGS];
+        let mut legs = [Linked {
+            leg: blank,
+            next: None,
+        }; MAX_LEGS];
+        let mut first = [None; MAX_FIXES];
         copy_legs(chart, &mut legs);
-        link_legs(&legs, &mut first, &mut next, count);
+        link_legs(&mut legs, &mut first, count);
         Snapshot {
             fixes,
             count,
             legs,
             first,
-            next,
         }
     }
 }

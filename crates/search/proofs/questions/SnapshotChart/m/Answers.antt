@@ -1,5 +1,5 @@
 use Rattle.std.proofs.Common.{arith}
-use Rattle.search.specs.Sound.{snapshot_length}
+use Rattle.search.proofs.Leaving.{snapshot_length}
 use Rattle.search.proofs.questions.SnapshotChart.m.Goals as goal
 
 pub returns : goal.returns

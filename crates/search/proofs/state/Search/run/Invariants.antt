@@ -1,0 +1,13 @@
+use Rattle.std.proofs.Common.{◌≡◌, ◌-◌}
+use Rattle.chart.specs.Limits.{max_fixes}
+use Rattle.search.specs.Labels.{done}
+use Rattle.search.specs.State.{Rest, over}
+use Rattle.search.proofs.state.Search.run.Given as goal
+
+abbrev pub invariant-loop-u : goal.invariant-loop-u
+invariant-loop-u g l =
+    (l.self.snapshot.now ≡ l.initial.self.snapshot.now) × (l.self.kind.now ≡ l.initial.self.kind.now)
+    × Rest (over (g.K.Kind.rule l.initial.self.kind.now) l.initial.self.snapshot.now l.departure) l.self.label.now l.self.mark.now
+
+abbrev pub decreases-loop-u : goal.decreases-loop-u
+decreases-loop-u g l = max_fixes - done l.self.mark.now

@@ -1,0 +1,19 @@
+use Rattle.std.proofs.Common.{◌+◌, ◌<◌, length, sym, ap, ◌∙◌, arith}
+use Rattle.chart.proofs.Numbers.{numbered_is, numbered_not}
+use Rattle.search.specs.Index.{taken}
+use Rattle.search.proofs.Linking.{copied_more}
+use Rattle.search.proofs.taking.copy_legs.Goals as goal
+use Rattle.search.proofs.taking.copy_legs.Goals.{in-Some, in_default}
+
+pub loop-k-preserved : goal.loop-k-preserved
+loop-k-preserved g c =
+    let legs = g.C.Chart.legs c.args.chart.now in
+    let here = c.loop-k-test.true in
+    elim c.match-leg.branch [
+      | in-Some w ↦
+          let lt : c.loop-k.k < length legs = omega arith in
+          let is = numbered_is legs c.loop-k.k w.in-Some.leg lt (sym w.in-Some.is ∙ c.leg.ensures) in
+          let few = (g.C.Chart.charted c.args.chart.now).few in
+          (omega arith, ap (λ r. taken (c.loop-k.k + 1) r) w.row-is ∙ copied_more legs c.loop-k.row c.loop-k.k _ c.loop-k.invariant.0 few lt is c.loop-k.invariant.1)
+      | in_default w ↦ absurd (numbered_not legs c.loop-k.k (omega arith) (sym c.leg.ensures ∙ w.in_default.is))
+    ]
