@@ -10,6 +10,7 @@ use super::picking::pick;
 use super::settling::settle;
 use super::snapshot::Snapshot;
 use chart::charts::Chart;
+use chart::ends::Ends;
 use chart::kinds::Kind;
 use chart::limits::MAX_FIXES;
 
@@ -19,15 +20,15 @@ fn run<K: Kind>(
     kind: &K,
     label: &mut [K::Total],
     mark: &mut [Mark],
-    departure: usize,
-    destination: usize,
+    ends: Ends,
 ) -> Option<K::Total>
-    requires ends { (departure < fixes_of snapshot.now) × (destination < fixes_of snapshot.now) × (departure ≢ destination) }
+    requires ends { (ends.from < fixes_of snapshot.now) × (ends.to < fixes_of snapshot.now) × (ends.from ≢ ends.to) }
     requires blank { (label.old ≡ replicate max_fixes (K.rule kind.now).start) × (mark.old ≡ replicate max_fixes Blank) }
-    ensures { BestTotal (K.rule kind.now) (legs_of snapshot.now) departure destination result }
+    ensures { BestTotal (K.rule kind.now) (legs_of snapshot.now) ends.from ends.to result }
 {
     let fixes = snapshot.fixes as usize;
-    mark[departure] = Mark::Reached;
+    let destination = ends.to as usize;
+    mark[ends.from as usize] = Mark::Reached;
     while let Some(u) = pick(kind, label, mark, fixes) {
         settle(snapshot, kind, label, mark, u);
     }
@@ -37,46 +38,29 @@ fn run<K: Kind>(
     }
 }
 
-// The best total over all routes of a snapshot from the departure to the destination; none where there is
-// no route, as between numbers that are no fixes, or from a fix to itself.
-pub fn best_on<K: Kind>(
-    snapshot: &Snapshot,
-    kind: &K,
-    departure: u16,
-    destination: u16,
-) -> Option<K::Total>
-    ensures { BestTotal (K.rule kind.now) (legs_of snapshot.now) departure destination result }
+// The best total over all routes of a snapshot between two ends; none where there is no route, as between
+// numbers that are no fixes, or from a fix to itself.
+pub fn best_on<K: Kind>(snapshot: &Snapshot, kind: &K, ends: Ends) -> Option<K::Total>
+    ensures { BestTotal (K.rule kind.now) (legs_of snapshot.now) ends.from ends.to result }
 {
-    if departure >= snapshot.fixes {
+    if ends.from >= snapshot.fixes {
         return None;
     }
-    if destination >= snapshot.fixes {
+    if ends.to >= snapshot.fixes {
         return None;
     }
-    if departure == destination {
+    if ends.from == ends.to {
         return None;
     }
     let mut label = [kind.start(); MAX_FIXES];
     let mut mark = [Mark::Blank; MAX_FIXES];
-    run(
-        snapshot,
-        kind,
-        &mut label,
-        &mut mark,
-        departure as usize,
-        destination as usize,
-    )
+    run(snapshot, kind, &mut label, &mut mark, ends)
 }
 
-// The best total over all routes of a chart from the departure to the destination, as `best_on` has it.
-pub fn best<C: Chart, K: Kind>(
-    chart: &C,
-    kind: &K,
-    departure: u16,
-    destination: u16,
-) -> Option<K::Total>
-    ensures { BestTotal (K.rule kind.now) (C.legs chart.now) departure destination result }
+// The best total over all routes of a chart between two ends, as `best_on` has it.
+pub fn best<C: Chart, K: Kind>(chart: &C, kind: &K, ends: Ends) -> Option<K::Total>
+    ensures { BestTotal (K.rule kind.now) (C.legs chart.now) ends.from ends.to result }
 {
     let snapshot = Snapshot::of(chart);
-    best_on(&snapshot, kind, departure, destination)
+    best_on(&snapshot, kind, ends)
 }

@@ -5,7 +5,7 @@ use Rattle.search.specs.State.{Rest, over}
 use Rattle.search.proofs.best.run.Given as goal
 
 abbrev pub invariant-loop-u : goal.invariant-loop-u
-invariant-loop-u g l = Rest (over (g.K.Kind.rule l.kind) l.snapshot l.departure) l.label l.mark
+invariant-loop-u g l = Rest (over (g.K.Kind.rule l.kind) l.snapshot l.fn.ends.from) l.label l.mark
 
 abbrev pub decreases-loop-u : goal.decreases-loop-u
 decreases-loop-u g l = max_fixes - done l.mark
