@@ -46,6 +46,15 @@ impl<'a> Table<'a> {
         }
     }
 
+    // The table of a chart with `n` fixes that has every row for a leg.
+    pub fn of(n: u16, rows: &'a [Row]) -> Result<Table<'a>, TableRefusal>
+        ensures has_exactly_its_rows { MatchResult result (λ t. (t.rows.now ≡ rows.now) × (t.fixes ≡ n) × (map plain (table_legs t) ≡ rows.now)) (λ e. TableOwes n rows.now e) }
+    {
+        let mut table = Table::new(rows);
+        table.take_rows(n)?;
+        Ok(table)
+    }
+
     // Takes every row as a leg of a chart with `n` fixes.
     pub fn take_rows(&mut self, n: u16) -> Result<(), TableRefusal>
         ensures over { self.new.rows.now ≡ self.old.rows.now }
