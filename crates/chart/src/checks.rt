@@ -1,11 +1,18 @@
-// The check of a row, which makes a leg of it.
-ghost use Rattle.std.specs.Prelude.{◌≡◌, MatchBool, MatchResult};
-ghost use Rattle.chart.specs.Rows.{plain, Timed, Placed, RowOwes};
+// The check of the counts of a chart, and that of a row, which makes a leg of it.
+ghost use Rattle.std.specs.Prelude.{◌≡◌, MatchBool, MatchResult, ◌≢◌};
+ghost use Rattle.chart.specs.Rows.{plain, Counted, Timed, Placed, RowOwes};
 
 use super::leg::Leg;
-use super::limits::{MAX_LEVEL, MAX_SECONDS};
+use super::limits::{MAX_FIXES, MAX_LEGS, MAX_LEVEL, MAX_SECONDS, MIN_FIXES};
 use super::refusals::RowRefusal;
 use super::row::Row;
+
+// Whether a chart may have so many fixes and legs.
+pub fn are_counts(fixes: u16, legs: usize) -> bool
+    ensures { MatchBool result (Counted fixes legs) (Counted fixes legs → ⊥) }
+{
+    (MIN_FIXES..=MAX_FIXES).contains(&(fixes as usize)) && legs <= MAX_LEGS
+}
 
 impl Row {
     // Whether the times and the level are within their limits.
@@ -32,13 +39,22 @@ impl Row {
         if !self.is_placed(n) {
             return Err(RowRefusal::BadFixes);
         }
-        Ok(Leg {
+        Ok(self.as_leg())
+    }
+
+    // The leg that has the numbers of this row.
+    pub(crate) fn as_leg(&self) -> Leg
+        requires timed { Timed self.now }
+        requires apart { self.now.from ≢ self.now.to }
+        ensures { plain result ≡ self.now }
+    {
+        Leg {
             from: self.from,
             to: self.to,
             low: self.low,
             high: self.high,
             top: self.top,
             standing: self.standing,
-        })
+        }
     }
 }

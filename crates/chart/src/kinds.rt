@@ -88,10 +88,7 @@ impl Kind for Quickest {
     }
 
     fn better(&self, a: Flown, b: Flown) -> bool {
-        if a.seconds == b.seconds {
-            return a.legs < b.legs;
-        }
-        a.seconds < b.seconds
+        a < b
     }
 }
 

@@ -16,10 +16,8 @@ use super::step::{Interval, Step};
 fn is_shaped(rows: u16, columns: u16, steps: usize) -> bool
     ensures { MatchBool result (Shaped rows columns steps) (Shaped rows columns steps → ⊥) }
 {
-    1 <= rows
-        && rows <= MAX_ROWS
-        && 2 <= columns
-        && columns <= MAX_COLUMNS
+    (1..=MAX_ROWS).contains(&rows)
+        && (2..=MAX_COLUMNS).contains(&columns)
         && steps == columns as usize - 1
 }
 
@@ -37,12 +35,7 @@ impl Step {
     fn is_timed(&self) -> bool
         ensures { MatchBool result (StepTimed self.now) (StepTimed self.now → ⊥) }
     {
-        for interval in &self.turns {
-            if !interval.is_span() {
-                return false;
-            }
-        }
-        true
+        self.turns.iter().all(|interval| interval.is_span())
     }
 }
 
@@ -50,12 +43,7 @@ impl Step {
 fn are_timed(steps: &[Step]) -> bool
     ensures { MatchBool result (StepsTimed steps.now (length steps.now)) (StepsTimed steps.now (length steps.now) → ⊥) }
 {
-    for step in steps {
-        if !step.is_timed() {
-            return false;
-        }
-    }
-    true
+    steps.iter().all(|step| step.is_timed())
 }
 
 // Copies the steps to the front of the row.
@@ -63,9 +51,7 @@ fn copy_steps(steps: &[Step], row: &mut [Step])
     requires { length steps.now ≤ length row.old }
     ensures { Copied steps.now row.new (length steps.now) }
 {
-    for s in 0..steps.len() {
-        row[s] = steps[s];
-    }
+    row[..steps.len()].copy_from_slice(steps);
 }
 
 impl Lattice {

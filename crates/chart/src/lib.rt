@@ -4,6 +4,7 @@
 pub mod charts;
 pub mod checks;
 pub mod choices;
+pub mod ends;
 pub mod flown;
 pub mod kinds;
 pub mod lattice;

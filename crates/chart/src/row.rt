@@ -1,14 +1,14 @@
 // A leg as plain numbers, before any check.
 
 // Whether a leg may be flown.
-#[derive(Clone, Copy)]
+#[derive(Clone, Copy, Debug, PartialEq, Eq)]
 pub enum Standing {
     Open,
     Closed,
 }
 
 // One row of leg memory: any numbers, and a standing.
-#[derive(Clone, Copy)]
+#[derive(Clone, Copy, Debug, PartialEq, Eq)]
 pub struct Row {
     pub from: u16,
     pub to: u16,

@@ -1,23 +1,16 @@
 // How a table takes its rows, and a table as a chart.
-ghost use Rattle.std.specs.Prelude.{◌≡◌, ℕ, ◌<◌, List, [], map, length, MatchBool, MatchResult};
+ghost use Rattle.std.specs.Prelude.{◌≡◌, ℕ, ◌<◌, List, [], map, length, MatchResult};
 ghost use Rattle.chart.specs.Limits.{min_fixes};
 ghost use Rattle.chart.specs.Rows.{plain, Counted, FirstBad, TableOwes, AllSound};
 ghost use Rattle.chart.specs.Tables.{table_legs, table_charted};
 
 use super::charts::Chart;
+use super::checks::are_counts;
 use super::leg::Leg;
-use super::limits::{MAX_FIXES, MAX_LEGS, MIN_FIXES};
+use super::limits::MIN_FIXES;
 use super::refusals::{RowRefusal, TableRefusal};
 use super::row::Row;
 use super::table::Table;
-
-// Whether the counts of fixes and rows are within the limits of charts.
-fn is_counted(n: u16, rows: &[Row]) -> bool
-    ensures { MatchBool result (Counted n (length rows.now)) (Counted n (length rows.now) → ⊥) }
-{
-    let n = n as usize;
-    MIN_FIXES <= n && n <= MAX_FIXES && rows.len() <= MAX_LEGS
-}
 
 // Checks the rows in their order.
 fn check_each(n: u16, rows: &[Row]) -> Result<(), RowRefusal>
@@ -33,7 +26,7 @@ fn check_each(n: u16, rows: &[Row]) -> Result<(), RowRefusal>
 fn checked(n: u16, rows: &[Row]) -> Result<u16, TableRefusal>
     ensures { MatchResult result (λ m. (m ≡ length rows.now) × Counted n m × AllSound n rows.now m) (λ e. TableOwes n rows.now e) }
 {
-    if !is_counted(n, rows) {
+    if !are_counts(n, rows.len()) {
         return Err(TableRefusal::BadCounts);
     }
     check_each(n, rows)?;
@@ -51,6 +44,15 @@ impl<'a> Table<'a> {
             count: 0,
             rows,
         }
+    }
+
+    // The table of a chart with `n` fixes that has every row for a leg.
+    pub fn of(n: u16, rows: &'a [Row]) -> Result<Table<'a>, TableRefusal>
+        ensures has_exactly_its_rows { MatchResult result (λ t. (t.rows.now ≡ rows.now) × (t.fixes ≡ n) × (map plain (table_legs t) ≡ rows.now)) (λ e. TableOwes n rows.now e) }
+    {
+        let mut table = Table::new(rows);
+        table.take_rows(n)?;
+        Ok(table)
     }
 
     // Takes every row as a leg of a chart with `n` fixes.
@@ -88,14 +90,6 @@ impl Chart for Table<'_> {
         if k >= self.count {
             return None;
         }
-        let row = self.rows[k as usize];
-        Some(Leg {
-            from: row.from,
-            to: row.to,
-            low: row.low,
-            high: row.high,
-            top: row.top,
-            standing: row.standing,
-        })
+        Some(self.rows[k as usize].as_leg())
     }
 }

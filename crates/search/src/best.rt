@@ -9,17 +9,19 @@ use super::mark::Mark;
 use super::snapshot::Snapshot;
 use super::state::Search;
 use chart::charts::Chart;
+use chart::ends::Ends;
 use chart::kinds::Kind;
 use chart::limits::MAX_FIXES;
 
 impl<'a, K: Kind> Search<'a, K> {
     // The search between two fixes, over labels that are all the start and marks that are all blank.
-    fn run(&mut self, departure: usize, destination: usize) -> Option<K::Total>
-        requires ends { (departure < fixes_of self.old.snapshot.now) × (destination < fixes_of self.old.snapshot.now) × (departure ≢ destination) }
+    fn run(&mut self, ends: Ends) -> Option<K::Total>
+        requires ends { (ends.from < fixes_of self.old.snapshot.now) × (ends.to < fixes_of self.old.snapshot.now) × (ends.from ≢ ends.to) }
         requires blank { (self.old.label.now ≡ replicate max_fixes (K.rule self.old.kind.now).start) × (self.old.mark.now ≡ replicate max_fixes Blank) }
-        ensures { BestTotal (K.rule self.old.kind.now) (legs_of self.old.snapshot.now) departure destination result }
+        ensures { BestTotal (K.rule self.old.kind.now) (legs_of self.old.snapshot.now) ends.from ends.to result }
     {
-        self.mark[departure] = Mark::Reached;
+        let destination = ends.to as usize;
+        self.mark[ends.from as usize] = Mark::Reached;
         while let Some(u) = self.pick() {
             self.settle(u);
         }
@@ -30,23 +32,18 @@ impl<'a, K: Kind> Search<'a, K> {
     }
 }
 
-// The best total over all routes of a snapshot from the departure to the destination; none where there is
-// no route, as between numbers that are no fixes, or from a fix to itself.
-pub fn best_on<K: Kind>(
-    snapshot: &Snapshot,
-    kind: &K,
-    departure: u16,
-    destination: u16,
-) -> Option<K::Total>
-    ensures { BestTotal (K.rule kind.now) (legs_of snapshot.now) departure destination result }
+// The best total over all routes of a snapshot between two ends; none where there is no route, as between
+// numbers that are no fixes, or from a fix to itself.
+pub fn best_on<K: Kind>(snapshot: &Snapshot, kind: &K, ends: Ends) -> Option<K::Total>
+    ensures { BestTotal (K.rule kind.now) (legs_of snapshot.now) ends.from ends.to result }
 {
-    if departure >= snapshot.fixes {
+    if ends.from >= snapshot.fixes {
         return None;
     }
-    if destination >= snapshot.fixes {
+    if ends.to >= snapshot.fixes {
         return None;
     }
-    if departure == destination {
+    if ends.from == ends.to {
         return None;
     }
     let mut label = [kind.start(); MAX_FIXES];
@@ -57,18 +54,13 @@ pub fn best_on<K: Kind>(
         label: &mut label,
         mark: &mut mark,
     };
-    search.run(departure as usize, destination as usize)
+    search.run(ends)
 }
 
-// The best total over all routes of a chart from the departure to the destination, as `best_on` has it.
-pub fn best<C: Chart, K: Kind>(
-    chart: &C,
-    kind: &K,
-    departure: u16,
-    destination: u16,
-) -> Option<K::Total>
-    ensures { BestTotal (K.rule kind.now) (C.legs chart.now) departure destination result }
+// The best total over all routes of a chart between two ends, as `best_on` has it.
+pub fn best<C: Chart, K: Kind>(chart: &C, kind: &K, ends: Ends) -> Option<K::Total>
+    ensures { BestTotal (K.rule kind.now) (C.legs chart.now) ends.from ends.to result }
 {
     let snapshot = Snapshot::of(chart);
-    best_on(&snapshot, kind, departure, destination)
+    best_on(&snapshot, kind, ends)
 }

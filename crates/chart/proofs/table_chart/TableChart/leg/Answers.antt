@@ -8,12 +8,12 @@ pub returns-then-k-self : goal.returns-then-k-self
 unfolding table_legs
 returns-then-k-self c = let t = c.args.self.now in sym (no_leg_past (taken t) c.args.k (omega (arith, length_taken t, c.if-k-self.true)))
 
-pub invariant_of-result : goal.invariant_of-result
-invariant_of-result c =
+pub as_leg-requires : goal.as_leg-requires
+as_leg-requires c =
     let t = c.args.self.now in
     let k = c.args.k in
     let h : k < t.count = omega (arith, c.if-k-self.false) in
-    record { apart = t.apart k h; ordered = t.ordered k h; bounded = t.bounded k h; level = t.level k h }
+    record { timed = record { ordered = t.ordered k h; bounded = t.bounded k h; level = t.level k h }; apart = t.apart k h }
 
 pub returns : goal.returns
 unfolding table_legs
@@ -21,5 +21,5 @@ returns c =
     let t = c.args.self.now in
     let k = c.args.k in
     let h : k < t.count = omega (arith, c.if-k-self.false) in
-    ap Some (leg_of_plain _ ∙ ap leg_of (sym (row_taken t k h)))
+    ap Some (leg_of_plain _ ∙ ap leg_of (c.as_leg.ensures ∙ sym (row_taken t k h)))
     ∙ sym (numbered_legs (taken t) k (omega (arith, length_taken t)))

@@ -7,7 +7,7 @@ use Rattle.search.proofs.state.Search.run.Given as goal
 abbrev pub invariant-loop-u : goal.invariant-loop-u
 invariant-loop-u g l =
     (l.self.snapshot.now ≡ l.initial.self.snapshot.now) × (l.self.kind.now ≡ l.initial.self.kind.now)
-    × Rest (over (g.K.Kind.rule l.initial.self.kind.now) l.initial.self.snapshot.now l.departure) l.self.label.now l.self.mark.now
+    × Rest (over (g.K.Kind.rule l.initial.self.kind.now) l.initial.self.snapshot.now l.fn.ends.from) l.self.label.now l.self.mark.now
 
 abbrev pub decreases-loop-u : goal.decreases-loop-u
 decreases-loop-u g l = max_fixes - done l.self.mark.now
