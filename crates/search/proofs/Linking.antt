@@ -4,7 +4,7 @@ use Rattle.std.proofs.lemmas.List.{get_or-set_same, get_or-set_other, get_or-rep
 use Rattle.std.proofs.Math.Seq.{map-set_same}
 use Rattle.std.proofs.lemmas.Bool.{cases_eq}
 use Rattle.chart.specs.declared.leg.Leg.{Leg}
-use Rattle.chart.specs.Legs.{at, no_leg, Charted}
+use Rattle.chart.specs.Legs.{at, no_leg}
 use Rattle.chart.specs.Limits.{max_fixes, max_legs}
 use Rattle.search.specs.declared.linked.Linked.{Linked}
 use Rattle.search.specs.Index.{taken, nexts, FirstLeg, Fair, Chained}
@@ -87,10 +87,3 @@ copied_more legs row k new whole few lt is c =
     ∙ ap (λ ls. ls ++ new.leg ∷ []) c
     ∙ ap (λ l. take k legs ++ l ∷ []) is
     ∙ sym (take_more legs k no_leg lt)
-
-pub fair_copied : (legs : List Leg) (row : List Linked) (fixes count : ℕ) → Charted fixes legs → count ≡ length legs → length row ≡ max_legs → taken count row ≡ legs → Fair row count
-fair_copied legs row fixes count charted e whole same = record {
-  whole = whole;
-  filled = omega (arith, charted.few);
-  leaves = subst (λ ls. (k : ℕ) → k < count → (at ls k).from < max_fixes) (sym same) (λ k h. let l = charted.leaves k (omega arith) in omega (arith, charted.most));
-}
