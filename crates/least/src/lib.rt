@@ -7,4 +7,5 @@ mod hopeless;
 mod orders;
 pub mod refusals;
 pub mod routes;
+mod sweep;
 mod weigh;
