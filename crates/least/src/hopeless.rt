@@ -3,7 +3,6 @@
 ghost use Rattle.std.specs.Prelude.{MatchBool};
 ghost use Rattle.least.specs.Sweeps.{trip_of, Hopeless};
 
-use super::orders::beats;
 use super::sweep::Sweep;
 use floor::floors::floor_on;
 use floor::refusals::FloorRefusal;
@@ -20,7 +19,7 @@ impl<'a> Sweep<'a> {
             Err(FloorRefusal::NotAChain) => false,
             Ok(floor) => match &self.best {
                 None => false,
-                Some(best) => beats(best.regret, best.list.as_slice(), floor, list),
+                Some(best) => best.rank() < (floor, list),
             },
         }
     }

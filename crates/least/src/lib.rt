@@ -4,7 +4,6 @@
 mod explore;
 pub mod found;
 mod hopeless;
-mod orders;
 pub mod refusals;
 pub mod routes;
 mod sweep;

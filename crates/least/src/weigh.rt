@@ -2,7 +2,6 @@
 ghost use Rattle.std.specs.Prelude.{◌≡◌, MatchBool};
 ghost use Rattle.least.specs.Sweeps.{trip_of, Sound, Better, NoBetter, Swept, Only};
 
-use super::orders::beats;
 use super::sweep::{Best, Sweep};
 use arrayvec::ArrayVec;
 use regret::regrets::regret_on;
@@ -14,12 +13,7 @@ impl<'a> Sweep<'a> {
     {
         match &self.best {
             None => true,
-            Some(best) => beats(
-                regret,
-                self.chain.as_slice(),
-                best.regret,
-                best.list.as_slice(),
-            ),
+            Some(best) => (regret, self.chain.as_slice()) < best.rank(),
         }
     }
 
@@ -33,6 +27,7 @@ impl<'a> Sweep<'a> {
             return;
         };
         if self.is_better(regret) {
+            // It fits, since it is the chain's own list.
             let list = ArrayVec::try_from(self.chain.as_slice()).unwrap();
             self.best = Some(Best { list, regret });
         }
