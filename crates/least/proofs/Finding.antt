@@ -1,50 +1,38 @@
 -- The whole search, and what of it is written.
-use Rattle.std.proofs.Common.{◌≡◌, ℕ, ◌+◌, ◌<◌, ◌≤◌, Bool, true, false, List, [], ◌++◌, length, take, drop, set, replicate, Some, None, Option, sym, refl, ap, ◌∙◌, subst, ⊎_elim, arith}
-use Rattle.std.proofs.lemmas.List.{take_at, drop_at, length-take-le}
-use Rattle.chart.specs.declared.leg.Leg.{Leg}
+use Rattle.std.proofs.Common.{◌≡◌, ℕ, ◌+◌, ◌<◌, ◌≤◌, true, false, List, [], length, set, replicate, Some, None, Option, sym, refl, ap, ◌∙◌, subst, subst₂, ⊎_elim, arith, length-set}
+use Rattle.std.proofs.lemmas.List.{length-replicate}
 use Rattle.chart.specs.Limits.{max_fixes}
 use Rattle.chart.specs.Legs.{Charted}
-use Rattle.chart.specs.Regret.{Trip, trip, LeastRegret}
+use Rattle.chart.specs.Regret.{Trip, LeastRegret}
 use Rattle.chart.specs.Floors.{Begins}
 use Rattle.chart.proofs.Short.{routes_short}
-use Rattle.regret.proofs.Walks.{walks_start}
-use Rattle.least.specs.declared.found.Found.{Found}
-use Rattle.least.specs.Sweeps.{list_of, Swept, Ready, Least}
-use Rattle.least.specs.Answers.{Written}
+use Rattle.search.specs.Snapshots.{fixes_of, legs_of}
+use Rattle.search.specs.Sound.{snapshot_charted}
+use Rattle.regret.specs.Walks.{Walk}
+use Rattle.regret.proofs.Walks.{walk_start}
+use Rattle.least.specs.declared.sweep.Best.{Best}
+use Rattle.least.specs.declared.sweep.Sweep.{Sweep}
+use Rattle.least.specs.Sweeps.{trip_of, Sound, Swept, Ready, Least}
 
-pub ready_first : {t : Trip} {fixes : ℕ} {chain : List ℕ} {used : List Bool} {best : List ℕ} → Charted fixes t.legs → t.from < fixes → length chain ≡ max_fixes → used ≡ replicate max_fixes false → length best ≡ max_fixes → Ready t fixes chain 0 t.from (set used t.from true) best None
-ready_first {t = t} {used = used} charted leaves chains unset bests =
-    let w = walks_start t.legs t.from [] used unset (omega (arith, charted.most)) in
-    record { charted = charted; leaves = leaves; chains = chains; useds = w.1; bests = bests; walk = w.0; sound = tt }
+pub ready_first : (s : Sweep) → s.ends.from < fixes_of s.snapshot.now → s.chain.items ≡ [] → s.used ≡ set (replicate max_fixes false) s.ends.from true → s.best ≡ None → Ready s s.ends.from
+ready_first s leaves none unset nothing = record {
+  leaves = leaves;
+  useds = ap length unset ∙ length-set (replicate max_fixes false) s.ends.from true ∙ length-replicate max_fixes false;
+  walk = subst₂ (λ l u. Walk (legs_of s.snapshot.now) s.ends.from l s.ends.from u) (sym none) (sym unset)
+      (walk_start (legs_of s.snapshot.now) max_fixes s.ends.from (let most = (snapshot_charted s.snapshot.now).most in omega arith));
+  sound = subst (λ b. Sound (trip_of s) b) (sym nothing) tt;
+}
 
-pub least_of : (t : Trip) (best : List ℕ) (r : Option Found) (best' : List ℕ) → Swept t None best r best' (Begins []) → Least t r best'
-least_of t best None best' s = λ q flies. s.all q flies (q, refl)
-least_of t best (Some f) best' s = (
-  record {
-    flies = s.sound.flies;
-    regret = s.sound.regret;
-    first = λ q y flies ne r. ⊎_elim (λ e. absurd (ne (sym e))) (λ b. b) (s.all q flies (q, refl) y r);
-  },
-  s.sound.fits,
-)
+pub least_of : (t : Trip) (best : Option Best) → Swept t None best (Begins []) → Least t best
+least_of t None s = λ q flies. s.all q flies (q, refl)
+least_of t (Some b) s = record {
+  flies = s.sound.flies;
+  regret = s.sound.regret;
+  first = λ q y flies ne r. ⊎_elim (λ e. absurd (ne (sym e))) (λ b. b) (s.all q flies (q, refl) y r);
+}
 
--- what was found on the legs of a snapshot, which are the legs of its chart
-module _ {fixes : ℕ} {legs legs' : List Leg} (charted : Charted fixes legs) (same : legs' ≡ legs) (from to : ℕ) (f : Found) (best : List ℕ) (least : Least (trip legs' from to) (Some f) best) (memory : List ℕ) (room : fixes ≤ length memory + 1) where
-  least_there : LeastRegret (trip legs from to) (list_of f best) f.regret
-  least_there = subst (λ ls. LeastRegret (trip ls from to) (list_of f best) f.regret) same least.0
-
-  pub found_fits : f.legs ≤ length memory
-  found_fits =
-      let short = routes_short fixes legs charted from to (list_of f best) least_there.flies in
-      omega (arith, length-take-le f.legs best least.1)
-
-  pub found_written : (memory' : List ℕ) → memory' ≡ list_of f best ++ drop (length (list_of f best)) memory → Written (trip legs from to) fixes memory f memory'
-  found_written memory' e =
-      let p = list_of f best in
-      let long : length p ≡ f.legs = length-take-le f.legs best least.1 in
-      record {
-        room = room;
-        fits = found_fits;
-        least = subst (λ l. LeastRegret (trip legs from to) l f.regret) (sym (ap (λ l. take f.legs l) e ∙ take_at p (drop (length p) memory) f.legs long)) least_there;
-        later = ap (λ l. drop f.legs l) e ∙ drop_at p (drop (length p) memory) f.legs long ∙ ap (λ n. drop n memory) long;
-      }
+-- the best on a chart's legs fits where there is a place for all fixes but one
+pub best_fits : {fixes : ℕ} (t : Trip) → Charted fixes t.legs → (b : Best) → LeastRegret t b.list.items b.regret → (memory : List ℕ) → fixes ≤ length memory + 1 → length b.list.items ≤ length memory
+best_fits {fixes = fixes} t charted b least memory room =
+    let short = routes_short fixes t.legs charted t.from t.to b.list.items least.flies in
+    omega arith

@@ -1,5 +1,5 @@
 -- There is one route of least regret at most: of two, each would come before the other.
-use Rattle.std.proofs.Common.{◌≡◌, ℕ, ◌⊎◌, List, [], ◌∷◌, sym, refl, subst, inl, inr, ⊎_elim, arith}
+use Rattle.std.proofs.Common.{◌≡◌, ℕ, ◌⊎◌, List, [], ◌∷◌, sym, refl, subst, inl, inr, ⊎_elim}
 use Rattle.std.proofs.lemmas.Bool.{cases_eq}
 use Rattle.chart.specs.Regret.{Regret, LeastRegretIsUnique}
 use Rattle.regret.proofs.Worsts.{regret_is_unique}
@@ -7,8 +7,8 @@ use Rattle.least.proofs.Lexical.{beats_trans, beats_itself}
 
 same_or : (p q : List ℕ) → (p ≡ q) ⊎ (p ≡ q → ⊥)
 same_or [] [] = inl refl
-same_or [] (y ∷ q) = inr (λ e. let z : ◌≡◌ {A = ℕ} 0 1 = cc in omega arith)
-same_or (x ∷ p) [] = inr (λ e. let z : ◌≡◌ {A = ℕ} 0 1 = cc in omega arith)
+same_or [] (y ∷ q) = inr (λ e. cc)
+same_or (x ∷ p) [] = inr (λ e. cc)
 same_or (x ∷ p) (y ∷ q) =
     ⊎_elim
     (λ e. ⊎_elim (λ f. inl (cc)) (λ n. inr (λ f. n (cc))) (same_or p q))

@@ -4,7 +4,7 @@
 mod explore;
 pub mod found;
 mod hopeless;
-mod orders;
 pub mod refusals;
 pub mod routes;
+mod sweep;
 mod weigh;

@@ -1,52 +1,35 @@
-// A list of legs weighed against the best route so far.
-ghost use Rattle.std.specs.Prelude.{◌≡◌, ◌≤◌, length, MatchBool};
-ghost use Rattle.chart.specs.Limits.{max_fixes};
-ghost use Rattle.least.specs.Sweeps.{trip_on, Sound, Better, NoBetter, Fits, Swept, Only};
+// A chain weighed against the best route so far.
+ghost use Rattle.std.specs.Prelude.{◌≡◌, MatchBool};
+ghost use Rattle.least.specs.Sweeps.{trip_of, Sound, Better, NoBetter, Swept, Only};
 
-use super::found::{Ends, Found};
-use super::orders::{comes_before, copy_front};
-use regret::refusals::RegretRefusal;
+use super::sweep::{Best, Sweep};
+use arrayvec::ArrayVec;
 use regret::regrets::regret_on;
-use search::snapshot::Snapshot;
 
-// Whether a list of the regret `x` is better than the best so far.
-fn is_better(list: &[u16], x: u32, best: &[u16], found: Option<Found>) -> bool
-    requires { Fits found best.now }
-    ensures { MatchBool result (Better x list.now found best.now) (NoBetter x list.now found best.now) }
-{
-    let Some(held) = found else {
-        return true;
-    };
-    if x < held.regret {
-        return true;
+impl<'a> Sweep<'a> {
+    // Whether the chain, of a regret, is better than the best so far.
+    fn is_better(&self, regret: u32) -> bool
+        ensures { MatchBool result (Better regret self.now.chain.items self.now.best) (NoBetter regret self.now.chain.items self.now.best) }
+    {
+        match &self.best {
+            None => true,
+            Some(best) => (regret, self.chain.as_slice()) < best.rank(),
+        }
     }
-    if held.regret < x {
-        return false;
-    }
-    let legs = held.legs as usize;
-    comes_before(list, &best[0..legs])
-}
 
-// Keeps the list where it is a route and better than the best so far.
-pub(crate) fn weigh(
-    snapshot: &Snapshot,
-    ends: Ends,
-    list: &[u16],
-    best: &mut [u16],
-    found: Option<Found>,
-) -> Option<Found>
-    requires room { (length list.now ≤ max_fixes) × (length best.old ≡ max_fixes) }
-    requires sound { Sound (trip_on snapshot.now ends) found best.old }
-    ensures { Swept (trip_on snapshot.now ends) found best.old result best.new (Only list.now) }
-{
-    let x = match regret_on(snapshot, ends.from, ends.to, list) {
-        Ok(x) => x,
-        Err(RegretRefusal::NotARoute) => return found,
-    };
-    if is_better(list, x, best, found) {
-        copy_front(list, best);
-        let legs = list.len() as u16;
-        return Some(Found { legs, regret: x });
+    // Keeps the chain where it is a route and better than the best so far.
+    pub(crate) fn weigh(&mut self)
+        requires { Sound (trip_of self.old) self.old.best }
+        ensures swept { Swept (trip_of self.old) self.old.best self.new.best (Only self.old.chain.items) }
+        ensures stands { self.new ≡ record self.old { best = self.new.best } }
+    {
+        let Ok(regret) = regret_on(self.snapshot, self.ends, self.chain.as_slice()) else {
+            return;
+        };
+        if self.is_better(regret) {
+            // It fits, since it is the chain's own list.
+            let list = ArrayVec::try_from(self.chain.as_slice()).unwrap();
+            self.best = Some(Best { list, regret });
+        }
     }
-    found
 }

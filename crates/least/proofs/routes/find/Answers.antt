@@ -1,8 +1,8 @@
-use Rattle.std.proofs.Common.{arith}
+use Rattle.std.proofs.Common.{refl, arith}
+use Rattle.chart.specs.Regret.{trip}
 use Rattle.chart.proofs.Within.{route_leaves_fix}
 use Rattle.search.specs.Snapshots.{legs_of}
 use Rattle.search.specs.Sound.{snapshot_charted}
-use Rattle.least.specs.Sweeps.{trip_on}
 use Rattle.least.proofs.Finding.{ready_first, least_of}
 use Rattle.least.proofs.routes.find.Goals as goal
 
@@ -13,7 +13,7 @@ returns-then-ends-n c q flies =
     omega (arith, c.if-ends-n.true, c.n.ensures)
 
 pub explore-requires : goal.explore-requires
-explore-requires c = ready_first (snapshot_charted c.args.snapshot.now) (omega (arith, c.if-ends-n.false, c.n.ensures)) c.requires.0 c.requires.1 c.requires.2
+explore-requires c = ready_first _ (omega (arith, c.if-ends-n.false, c.n.ensures)) c.new.ensures refl refl
 
 pub returns : goal.returns
-returns c = least_of (trip_on c.args.snapshot.now c.args.ends) c.args.best.now c.explore.result c.explore.new.best c.explore.ensures.swept
+returns c = least_of (trip (legs_of c.args.snapshot.now) c.args.ends.from c.args.ends.to) c.explore.new.self.best (rw c.new.ensures at c.explore.ensures.swept)

@@ -1,39 +1,39 @@
-use Rattle.std.proofs.Common.{◌≡◌, ◌-◌, ◌++◌, length, take, drop, None, refl, subst, arith, length-take}
+use Rattle.std.proofs.Common.{◌≤◌, length, ap, subst₂, arith, length-take}
 use Rattle.chart.specs.Regret.{trip}
 use Rattle.least.specs.Sweeps.{Least}
 use Rattle.least.proofs.Unique.{least_regret_is_unique}
-use Rattle.least.proofs.Finding.{found_fits, found_written}
+use Rattle.least.proofs.Finding.{best_fits}
 use Rattle.least.proofs.routes.least_regret.Goals as goal
+use Rattle.least.proofs.routes.least_regret.Goals.{In_ok-best}
 
-pub returns-then-memory-n : goal.returns-then-memory-n
-returns-then-memory-n g c = record { answers = (omega (arith, c.if-memory-n.true, c.n.ensures), refl); unique = least_regret_is_unique }
+-- the best route fits into the memory
+fits : (g : _) (c : In_ok-best g) → length c.in_ok-best.best.list.items ≤ length c.args.memory.now
+fits g c =
+    let ends = c.args.ends in
+    let least = subst₂ (λ l o. Least (trip l ends.from ends.to) o) c.of-snapshot.ensures.same_legs c.in_ok-best.ensures.ok_part c.find.ensures in
+    best_fits (trip (g.C.Chart.legs c.args.chart.now) ends.from ends.to) (g.C.Chart.charted c.args.chart.now) c.in_ok-best.best least c.args.memory.now (omega (arith, c.if-memory-n.false, c.n.ensures))
 
-pub returns-in_default : goal.returns-in_default
-returns-in_default g c = record {
-  answers = (
-    omega (arith, c.if-memory-n.false, c.n.ensures),
-    subst (λ legs. Least (trip legs c.args.departure c.args.destination) None c.find.new.best) c.of-snapshot.ensures.same_legs c.in_default.ensures,
-    refl,
-  );
-  unique = least_regret_is_unique;
-}
+pub returns-then-memory-n-clause-unique : goal.returns-then-memory-n-clause-unique
+returns-then-memory-n-clause-unique g c = least_regret_is_unique
 
-pub copy_front-requires : goal.copy_front-requires
-copy_front-requires g c =
-    let found = c.in-Some.found in
-    let best = c.find.new.best in
-    let fits = found_fits (g.C.Chart.charted c.args.chart.now) c.of-snapshot.ensures.same_legs c.args.departure c.args.destination found best c.in-Some.ensures c.args.memory.now (omega (arith, c.if-memory-n.false, c.n.ensures)) in
-    omega (arith, length-take (found.legs - 0) best)
+pub returns-in_err-best-clause-unique : goal.returns-in_err-best-clause-unique
+returns-in_err-best-clause-unique g c = least_regret_is_unique
 
-pub returns : goal.returns
-returns g c =
-    let found = c.in-Some.found in
-    let best = c.find.new.best in
-    let memory = c.args.memory.now in
-    let memory' = c.copy_front.new.into in
-    let whole : found.legs - 0 ≡ found.legs = omega arith in
-    record {
-      answers = found_written (g.C.Chart.charted c.args.chart.now) c.of-snapshot.ensures.same_legs c.args.departure c.args.destination found best c.in-Some.ensures memory (omega (arith, c.if-memory-n.false, c.n.ensures)) memory'
-          (subst (λ n. memory' ≡ take n best ++ drop (length (take n best)) memory) whole c.copy_front.ensures);
-      unique = least_regret_is_unique;
-    }
+pub slice_bounds-copy_from_slice-end : goal.slice_bounds-copy_from_slice-end
+slice_bounds-copy_from_slice-end g c =
+    let f = fits g (goal.at.slice_bounds-copy_from_slice-end g c).In_ok-best in
+    omega (arith, c.len-legs.ensures.value)
+
+pub slice_bounds-copy_from_slice-end-2 : goal.slice_bounds-copy_from_slice-end-2
+slice_bounds-copy_from_slice-end-2 g c =
+    let f = fits g (goal.at.slice_bounds-copy_from_slice-end-2 g c).In_ok-best in
+    omega (arith, c.len-legs.ensures.value, length-take c.len-legs.result c.args.memory.now)
+
+pub copy_from_slice-requires : goal.copy_from_slice-requires
+copy_from_slice-requires g c =
+    let f = fits g (goal.at.copy_from_slice-requires g c).In_ok-best in
+    let same = ap length c.as_slice.ensures.value in
+    omega (arith, c.len-legs.ensures.value, length-take c.len-legs.result c.args.memory.now)
+
+pub returns-clause-unique : goal.returns-clause-unique
+returns-clause-unique g c = least_regret_is_unique

@@ -1,0 +1,41 @@
+use Rattle.std.proofs.Common.{arith, rules}
+use Rattle.least.proofs.Sweeping.{swept_of}
+use Rattle.least.proofs.Exploring.{depth_small, only_itself, stuck, to_small, ready_deeper, swept_deeper, stands_again, turns_start, turns_again, turns_end}
+use Rattle.least.proofs.sweep.Sweep.+explore.Goals as goal
+
+pub explore-returns-then-here-self-clause-swept : goal.explore-returns-then-here-self-clause-swept
+explore-returns-then-here-self-clause-swept t c = swept_of c.weigh.ensures.swept (only_itself c.requires c.if-here-self.true)
+
+pub explore-loop-next-init : goal.explore-loop-next-init
+explore-loop-next-init t c = turns_start c.requires c.first_leg-next.result c.first_leg-next.ensures
+
+pub explore-loop-next-preserved : goal.explore-loop-next-preserved
+explore-loop-next-preserved t c =
+    turns_again c.requires c.loop-next.invariant c.in-Some.k c.in-Some.is c.explore_leg.new.self c.explore_leg.ensures.swept c.explore_leg.ensures.stands c.next_leg-next.result c.next_leg-next.ensures
+
+pub explore-returns-clause-swept : goal.explore-returns-clause-swept
+explore-returns-clause-swept t c = turns_end c.requires c.loop-next.invariant c.if-here-self.false c.in_default.is
+
+pub explore_leg-returns-in_default-clause-swept : goal.explore_leg-returns-in_default-clause-swept
+explore_leg-returns-in_default-clause-swept t c = stuck c.requires c.args.k c.in_default.ensures
+
+pub explore_leg-push-requires : goal.explore_leg-push-requires
+explore_leg-push-requires t c = let d = depth_small c.requires in search rules
+
+pub explore_leg-bounds-self-to : goal.explore_leg-bounds-self-to
+explore_leg-bounds-self-to t c = to_small c.requires c.args.k c.in-Some.leg c.in-Some.ensures
+
+pub explore_leg-explore-requires : goal.explore_leg-explore-requires
+explore_leg-explore-requires t c =
+    let d = depth_small c.requires in
+    (omega (arith, c.push.ensures.len), ready_deeper c.requires c.args.k c.in-Some.leg c.in-Some.ensures c.push.new.self c.push.ensures.items)
+
+pub explore_leg-bounds-self-to-2 : goal.explore_leg-bounds-self-to-2
+explore_leg-bounds-self-to-2 t c = to_small c.requires c.args.k c.in-Some.leg c.in-Some.ensures
+
+pub explore_leg-returns-clause-swept : goal.explore_leg-returns-clause-swept
+explore_leg-returns-clause-swept t c = swept_deeper c.requires c.args.k c.in-Some.leg c.in-Some.ensures c.push.new.self c.push.ensures.items c.explore.ensures.swept
+
+pub explore_leg-returns-clause-stands : goal.explore_leg-returns-clause-stands
+explore_leg-returns-clause-stands t c =
+    stands_again c.requires c.args.k c.in-Some.leg c.in-Some.ensures c.push.new.self c.push.ensures.items c.explore.new.self c.explore.ensures.stands c.pop.new.self c.pop.ensures.rest
