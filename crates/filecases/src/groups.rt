@@ -58,7 +58,12 @@ static GROUPS: [Group; 54] = [
     Group(UnknownMark, &ALL, &MARKED, At(0, b"XX")),
     Group(UnknownMark, &ALL, &MARKED, At(0, b"CX")),
     Group(UnknownMark, &ALL, &MARKED, At(0, b"fx")),
-    Group(OutOfPlace, &BOTH, &[MiddleFix, MiddleLeg, End], At(0, b"CH")),
+    Group(
+        OutOfPlace,
+        &BOTH,
+        &[MiddleFix, MiddleLeg, End],
+        At(0, b"CH"),
+    ),
     Group(OutOfPlace, &BOTH, &[Chart, MiddleLeg, End], At(0, b"FX")),
     Group(OutOfPlace, &BOTH, &[Chart, MiddleFix, End], At(0, b"LG")),
     Group(OutOfPlace, &BOTH, &BODIES, At(0, b"EN")),
