@@ -12,14 +12,10 @@ use Rattle.chart.proofs.Within.{route_leaves_fix}
 use Rattle.regret.specs.Walks.{Walk, NoChain}
 use Rattle.regret.proofs.Walks.{true_false, off_false}
 use Rattle.regret.proofs.Worsts.{in_entered}
-use Rattle.regret.proofs.Losing.{chain_is_route}
+use Rattle.regret.proofs.Losing.{highs_small, chain_is_route}
 use Rattle.floor.specs.Onward.{Off, LeastOff, LeastOnward}
 use Rattle.floor.proofs.Fixes.{entered_by, end_met}
 use Rattle.floor.proofs.Parts.{parts_apart, once_behind, once_join, leads_join, time_join}
-
-highs_small : (legs : List Leg) (ks : List ℕ) → time (highs legs) ks ≤ max_seconds * length ks
-highs_small legs [] = omega arith
-highs_small legs (k ∷ ks) = let h = highs_small legs ks in let b = (at legs k).bounded in omega arith
 
 module _ (legs : List Leg) (s t : ℕ) (ks : List ℕ) (z : ℕ) (used : List Bool) (walk : Walk legs s ks z used) where
   -- what a chain that begins with the walk goes on by

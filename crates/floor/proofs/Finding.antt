@@ -1,26 +1,31 @@
 -- The floor of a chain from what was found of it: its high time, the least high time onward, and the braced time.
-use Rattle.std.proofs.Common.{◌≡◌, ℕ, ◌+◌, ◌≤◌, List, Result, subst, subst₂}
+use Rattle.std.proofs.Common.{◌≡◌, ℕ, ◌+◌, ◌-◌, ◌≤◌, List, Ok, Result, subst, subst₂, arith}
 use Rattle.chart.specs.declared.leg.Leg.{Leg}
 use Rattle.chart.specs.Regret.{trip}
-use Rattle.chart.specs.Floors.{Nearest, Floor}
+use Rattle.chart.specs.Floors.{Nearest}
 use Rattle.regret.specs.declared.walked.Walked.{Walked}
 use Rattle.floor.specs.declared.refusals.FloorRefusal.{FloorRefusal}
 use Rattle.floor.specs.Answers.{FloorAnswer}
 use Rattle.floor.specs.Onward.{LeastOff}
-use Rattle.floor.specs.Braces.{WalksTo, BracedLeast}
+use Rattle.regret.specs.Walks.{Along}
+use Rattle.floor.specs.Braces.{BracedLeast}
 use Rattle.floor.proofs.Beginning.{nearest_by}
 use Rattle.floor.proofs.Bounds.{floor_is_never_negative}
 
-module _ (legs : List Leg) (s t : ℕ) (ks : List ℕ) (w : Walked) (along : WalksTo legs s ks w) (x : ℕ) (onward : LeastOff legs w.used w.end t x) (b : ℕ) (braced : BracedLeast (trip legs s t) ks b) where
+module _ (legs : List Leg) (s t : ℕ) (ks : List ℕ) (w : Walked) (along : Along legs s ks w) (x : ℕ) (onward : LeastOff legs w.used w.end t x) (b : ℕ) (braced : BracedLeast (trip legs s t) ks b) where
   near : Nearest (trip legs s t) ks (w.high + x)
   near = nearest_by legs s t ks w.end w.used along.walk x onward w.high along.sums braced.least.by braced.least.flies
 
   -- the braced time is not above the nearest, and the floor is what it is below
-  pub floor_found : (b ≤ w.high + x) × ((y : ℕ) → w.high + x ≡ b + y → Floor (trip legs s t) ks y)
-  floor_found = (
-    floor_is_never_negative (trip legs s t) ks (w.high + x) b braced.choice near braced.braced braced.least,
-    λ y over. record { a = w.high + x; b = b; v = braced.choice; nearest = near; braced = braced.braced; least = braced.least; over = over },
-  )
+  pub floor_found : (b ≤ w.high + x) × FloorAnswer (trip legs s t) ks (Ok (w.high + x - b))
+  floor_found =
+      let below = floor_is_never_negative (trip legs s t) ks (w.high + x) b braced.choice near braced.braced braced.least in (
+        below,
+        (
+          (w.end, along.walk.chain),
+          record { a = w.high + x; b = b; v = braced.choice; nearest = near; braced = braced.braced; least = braced.least; over = omega arith },
+        ),
+      )
 
 -- an answer on a trip is one on the same trip
 pub answer_carried : {legs legs' : List Leg} {s s' t t' : ℕ} → legs ≡ legs' → s ≡ s' → t ≡ t' → (ks : List ℕ) (r : Result ℕ FloorRefusal) → FloorAnswer (trip legs s t) ks r → FloorAnswer (trip legs' s' t') ks r

@@ -9,6 +9,7 @@ use Rattle.chart.specs.Kinds.{seconds_rule}
 use Rattle.chart.specs.Best.{BestTotal}
 use Rattle.chart.specs.Regret.{trip}
 use Rattle.chart.specs.Floors.{Shut, Braced}
+use Rattle.regret.specs.declared.walked.Walked.{Walked}
 use Rattle.regret.specs.Walks.{Walk, Along}
 use Rattle.regret.specs.Marked.{time_by, marked_times}
 use Rattle.regret.proofs.Walks.{true_false}
@@ -18,30 +19,30 @@ use Rattle.floor.specs.Braces.{UsedBeside, Unshut, BracedTime}
 use Rattle.floor.proofs.Fixes.{entered_by, left_by, left_met, left_not_end}
 
 -- a leg outside the chain, by the flags of the fixes that it joins
-module _ (legs : List Leg) (s : ℕ) (ks : List ℕ) (z high : ℕ) (used marks : List Bool) (along : Along legs s ks z high used marks) (k : ℕ) (leg : Leg) (is : leg ≡ at legs k) (unmarked : get_or marks k false ≡ false) where
-  walk : Walk legs s ks z used
+module _ (legs : List Leg) (s : ℕ) (ks : List ℕ) (w : Walked) (along : Along legs s ks w) (k : ℕ) (leg : Leg) (is : leg ≡ at legs k) (unmarked : get_or w.marks k false ≡ false) where
+  walk : Walk legs s ks w.end w.used
   walk = along.walk
 
   outside : In k ks → ⊥
   outside i = true_false _ (along.flags.on k i) unmarked
 
   -- it is shut where a leg of the chain leaves the fix that it leaves
-  pub shut_by_left : (u v : ℕ) → u ≡ z → v ≡ leg.from → UsedBeside used u v true → Shut legs ks k
+  pub shut_by_left : (u v : ℕ) → u ≡ w.end → v ≡ leg.from → UsedBeside w.used u v true → Shut legs ks k
   shut_by_left u v end from left =
-      let h = left_by legs ks s z v walk.chain.leads (walk.flags.back v left.1) (λ e. left.0 (e ∙ sym end)) in
+      let h = left_by legs ks s w.end v walk.chain.leads (walk.flags.back v left.1) (λ e. left.0 (e ∙ sym end)) in
       record { outside = outside; rival = h.0; inside = h.1; shares = inl (ap (λ (l : Leg). l.from) (sym is) ∙ sym from ∙ h.2) }
 
   -- where no leg of the chain leaves the fix that the leg leaves, it is shut by the fix that it enters
-  module _ (u v : ℕ) (end : u ≡ z) (from : v ≡ leg.from) (free : UsedBeside used u v false) (x y : ℕ) (start : x ≡ s) (to : y ≡ leg.to) where
+  module _ (u v : ℕ) (end : u ≡ w.end) (from : v ≡ leg.from) (free : UsedBeside w.used u v false) (x y : ℕ) (start : x ≡ s) (to : y ≡ leg.to) where
     leaves_alone : (m : ℕ) → In m ks → (at legs k).from ≡ (at legs m).from → ⊥
     leaves_alone m i e =
         let same : v ≡ (at legs m).from = from ∙ ap (λ (l : Leg). l.from) is ∙ e in
         ⊎_elim
-        (λ h. left_not_end legs ks s z walk.chain.leads walk.chain.once m i (sym same ∙ h ∙ end))
-        (λ h. true_false _ (walk.flags.on v (subst (λ n. In n (met legs s ks)) (sym same) (left_met legs ks s z walk.chain.leads m i))) h)
+        (λ h. left_not_end legs ks s w.end walk.chain.leads walk.chain.once m i (sym same ∙ h ∙ end))
+        (λ h. true_false _ (walk.flags.on v (subst (λ n. In n (met legs s ks)) (sym same) (left_met legs ks s w.end walk.chain.leads m i))) h)
         free
 
-    enters_alone : (m : ℕ) → In m ks → UsedBeside used x y false → (at legs k).to ≡ (at legs m).to → ⊥
+    enters_alone : (m : ℕ) → In m ks → UsedBeside w.used x y false → (at legs k).to ≡ (at legs m).to → ⊥
     enters_alone m i unused e =
         let same : y ≡ (at legs m).to = to ∙ ap (λ (l : Leg). l.to) is ∙ e in
         let j : In y (entered legs ks) = subst (λ n. In n (entered legs ks)) (sym same) (in_entered legs ks m i) in
@@ -50,7 +51,7 @@ module _ (legs : List Leg) (s : ℕ) (ks : List ℕ) (z high : ℕ) (used marks 
         (λ h. true_false _ (walk.flags.on y (inr j)) h)
         unused
 
-    pub shut_by_entered : (b : Bool) → UsedBeside used x y b → MatchBool b (Shut legs ks k) (Shut legs ks k → ⊥)
+    pub shut_by_entered : (b : Bool) → UsedBeside w.used x y b → MatchBool b (Shut legs ks k) (Shut legs ks k → ⊥)
     shut_by_entered true entering =
         let h = entered_by legs ks y (⊎_elim (λ e. absurd (entering.0 (e ∙ sym start))) (λ i. i) (walk.flags.back y entering.1)) in
         record { outside = outside; rival = h.0; inside = h.1; shares = inr (ap (λ (l : Leg). l.to) (sym is) ∙ sym to ∙ h.2) }

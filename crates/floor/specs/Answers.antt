@@ -1,7 +1,9 @@
 -- What the floor call answers.
-use Rattle.std.specs.Prelude.{ℕ, List, Ok, Err, Result}
+use Rattle.std.specs.Prelude.{ℕ, List, Ok, Err, Result, codes}
 use Rattle.chart.specs.Regret.{Trip}
 use Rattle.chart.specs.Floors.{Starts, Floor, NoneBegins}
+use Rattle.regret.specs.declared.refusals.RegretRefusal.TheVariants.{NotARoute}
+use Rattle.regret.specs.Answers.{regret_words}
 use Rattle.floor.specs.declared.refusals.FloorRefusal.{FloorRefusal}
 use Rattle.floor.specs.declared.refusals.FloorRefusal.TheVariants.{NotAChain, NoRoute}
 
@@ -9,6 +11,11 @@ use Rattle.floor.specs.declared.refusals.FloorRefusal.TheVariants.{NotAChain, No
 abbrev pub floor_number : FloorRefusal → ℕ
 floor_number NotAChain = 14
 floor_number NoRoute = 25
+
+-- what each says in words
+abbrev pub floor_words : FloorRefusal → List ℕ
+floor_words NotAChain = regret_words NotARoute
+floor_words NoRoute = codes "no route, or none that begins so"
 
 -- the floor of a chain; or that the list is no chain; or that it is one, and no route begins with it
 abbrev pub FloorAnswer : Trip → List ℕ → Result ℕ FloorRefusal → Type 0

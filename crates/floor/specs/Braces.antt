@@ -6,10 +6,6 @@ use Rattle.chart.specs.Floors.{Shut, Braced}
 use Rattle.regret.specs.declared.walked.Walked.{Walked}
 use Rattle.regret.specs.Walks.{Along}
 
--- w is what walking along the chain ks from s finds
-abbrev pub WalksTo : List Leg → ℕ → List ℕ → Walked → Type 0
-WalksTo legs s ks w = Along legs s ks w.end w.high w.used w.marks
-
 -- whether the fix v is used, and is not u
 abbrev pub UsedBeside : List Bool → ℕ → ℕ → Bool → Type 0
 UsedBeside used u v true = (v ≢ u) × (slice_index_or used v false ≡ true)
@@ -32,13 +28,13 @@ BracedTime t ks (Some b) = BracedLeast t ks b
 
 -- b says whether the leg k is shut by the chain that was walked along from s to find w
 abbrev pub TellsShut : List Leg → ℕ → Walked → ℕ → Bool → Type 0
-TellsShut legs s w k b = (ks : List ℕ) → WalksTo legs s ks w → k < length legs → MatchBool b (Shut legs ks k) (Shut legs ks k → ⊥)
+TellsShut legs s w k b = (ks : List ℕ) → Along legs s ks w → k < length legs → MatchBool b (Shut legs ks k) (Shut legs ks k → ⊥)
 
 -- of the legs below n, just those are marked that are not shut by the chain that was walked along from s to find w
 abbrev pub MarksUnshut : List Leg → ℕ → Walked → List Bool → ℕ → Type 0
-MarksUnshut legs s w marks n = (ks : List ℕ) → WalksTo legs s ks w → Unshut legs ks marks n
+MarksUnshut legs s w marks n = (ks : List ℕ) → Along legs s ks w → Unshut legs ks marks n
 
 -- r is the least time of any route of the trip where the legs shut by the chain that was walked along to find w take
 -- their low time
 abbrev pub BracedBy : Trip → Walked → Option ℕ → Type 0
-BracedBy t w r = (ks : List ℕ) → WalksTo t.legs t.from ks w → BracedTime t ks r
+BracedBy t w r = (ks : List ℕ) → Along t.legs t.from ks w → BracedTime t ks r

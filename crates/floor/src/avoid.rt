@@ -27,19 +27,14 @@ impl<'a> Kind for Avoid<'a> {
         if is_marked(self.used, leg.to) {
             return None;
         }
-        match total {
-            None => None,
-            Some(seconds) => Some(seconds + leg.high),
-        }
+        Some(total? + leg.high)
     }
 
     fn better(&self, a: Option<u32>, b: Option<u32>) -> bool {
-        match a {
-            None => false,
-            Some(x) => match b {
-                None => true,
-                Some(y) => x < y,
-            },
+        match (a, b) {
+            (None, _) => false,
+            (Some(_), None) => true,
+            (Some(x), Some(y)) => x < y,
         }
     }
 }

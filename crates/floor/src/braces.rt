@@ -6,6 +6,7 @@ ghost use Rattle.search.specs.Snapshots.{legs_of};
 ghost use Rattle.floor.specs.Braces.{UsedBeside, TellsShut, MarksUnshut, BracedBy};
 
 use chart::charts::Chart;
+use chart::ends::Ends;
 use chart::kinds::Seconds;
 use chart::limits::MAX_LEGS;
 use regret::marked::{Marked, is_marked};
@@ -17,10 +18,7 @@ use search::snapshot::Snapshot;
 fn is_used_beside(used: &[bool], u: u16, v: u16) -> bool
     ensures { UsedBeside used.now u v result }
 {
-    if v == u {
-        return false;
-    }
-    is_marked(used, v)
+    v != u && is_marked(used, v)
 }
 
 // Whether the leg `k` is shut by the chain that was walked along from the departure. Of the fixes that the chain
@@ -31,16 +29,12 @@ fn is_shut(snapshot: &Snapshot, departure: u16, walked: &Walked, k: u16) -> bool
     let Some(leg) = snapshot.leg(k) else {
         return false;
     };
-    if is_marked(&walked.marks, k) {
-        return false;
-    }
-    if is_used_beside(&walked.used, walked.end, leg.from) {
-        return true;
-    }
-    is_used_beside(&walked.used, departure, leg.to)
+    !is_marked(&walked.marks, k)
+        && (is_used_beside(&walked.used, walked.end, leg.from)
+            || is_used_beside(&walked.used, departure, leg.to))
 }
 
-// Marks every leg that is not shut.
+// Marks every leg that is not shut. A leg's number is also the place of its mark.
 fn mark_unshut(snapshot: &Snapshot, departure: u16, walked: &Walked, marks: &mut [bool])
     requires { length marks.old ≡ max_legs }
     ensures { MarksUnshut (legs_of snapshot.now) departure walked.now marks.new (length (legs_of snapshot.now)) }
@@ -50,20 +44,15 @@ fn mark_unshut(snapshot: &Snapshot, departure: u16, walked: &Walked, marks: &mut
     }
 }
 
-// The least time of any route from the departure to the destination where the legs that the chain shuts take their
-// low time and all others their high; the chain was walked along from the departure.
-pub(crate) fn braced_time(
-    snapshot: &Snapshot,
-    departure: u16,
-    destination: u16,
-    walked: &Walked,
-) -> Option<u32>
-    ensures { BracedBy (trip (legs_of snapshot.now) departure destination) walked.now result }
+// The least time of any route between two ends where the legs that the chain shuts take their low time and all others
+// their high; the chain was walked along from the departure.
+pub(crate) fn braced_time(snapshot: &Snapshot, ends: Ends, walked: &Walked) -> Option<u32>
+    ensures { BracedBy (trip (legs_of snapshot.now) ends.from ends.to) walked.now result }
 {
     let mut marks = [false; MAX_LEGS];
-    mark_unshut(snapshot, departure, walked, &mut marks);
+    mark_unshut(snapshot, ends.from, walked, &mut marks);
     let braced = Seconds {
         choice: Marked { marks: &marks },
     };
-    best_on(snapshot, &braced, departure, destination)
+    best_on(snapshot, &braced, ends)
 }

@@ -9,47 +9,38 @@ use super::braces::braced_time;
 use super::onward::least_onward;
 use super::refusals::FloorRefusal;
 use chart::charts::Chart;
+use chart::ends::Ends;
 use regret::walking::walk;
 use search::snapshot::Snapshot;
 
-// The floor of a list of legs from the departure to the destination, on a snapshot.
-pub fn floor_on(
-    snapshot: &Snapshot,
-    departure: u16,
-    destination: u16,
-    chain: &[u16],
-) -> Result<u32, FloorRefusal>
-    ensures { FloorAnswer (trip (legs_of snapshot.now) departure destination) chain.now result }
+// The floor of a list of legs between two ends, on a snapshot.
+pub fn floor_on(snapshot: &Snapshot, ends: Ends, chain: &[u16]) -> Result<u32, FloorRefusal>
+    ensures { FloorAnswer (trip (legs_of snapshot.now) ends.from ends.to) chain.now result }
 {
-    let Some(walked) = walk(snapshot, departure, chain) else {
+    let Some(walked) = walk(snapshot, ends.from, chain) else {
         // The empty list is a chain from every number: where it was not walked along, the departure is no fix.
         if chain.is_empty() {
             return Err(FloorRefusal::NoRoute);
         }
         return Err(FloorRefusal::NotAChain);
     };
-    let Some(onward) = least_onward(snapshot, &walked.used, walked.end, destination) else {
-        return Err(FloorRefusal::NoRoute);
+    let rest = Ends {
+        from: walked.end,
+        to: ends.to,
     };
-    match braced_time(snapshot, departure, destination, &walked) {
-        None => Err(FloorRefusal::NoRoute),
-        Some(braced) => Ok(walked.high + onward - braced),
-    }
+    let onward = least_onward(snapshot, &walked.used, rest).ok_or(FloorRefusal::NoRoute)?;
+    let braced = braced_time(snapshot, ends, &walked).ok_or(FloorRefusal::NoRoute)?;
+    Ok(walked.high + onward - braced)
 }
 
-// The floor of a list of legs from the departure to the destination: it is refused where the list is no chain that
-// leaves the departure, or where no route begins with it.
-pub fn floor<C: Chart>(
-    chart: &C,
-    departure: u16,
-    destination: u16,
-    chain: &[u16],
-) -> Result<u32, FloorRefusal>
-    ensures answers { FloorAnswer (trip (C.legs chart.now) departure destination) chain.now result }
+// The floor of a list of legs between two ends: it is refused where the list is no chain that leaves the departure, or
+// where no route begins with it.
+pub fn floor<C: Chart>(chart: &C, ends: Ends, chain: &[u16]) -> Result<u32, FloorRefusal>
+    ensures answers { FloorAnswer (trip (C.legs chart.now) ends.from ends.to) chain.now result }
     ensures below_every_regret { FloorIsBelowEveryRegret }
     ensures never_negative { FloorIsNeverNegative }
     ensures unique { FloorIsUnique }
 {
     let snapshot = Snapshot::of(chart);
-    floor_on(&snapshot, departure, destination, chain)
+    floor_on(&snapshot, ends, chain)
 }

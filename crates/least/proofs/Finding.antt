@@ -1,21 +1,29 @@
 -- The whole search, and what of it is written.
-use Rattle.std.proofs.Common.{◌≡◌, ℕ, ◌+◌, ◌<◌, ◌≤◌, Bool, true, false, List, [], ◌++◌, length, take, drop, set, replicate, Some, None, Option, sym, refl, ap, ◌∙◌, subst, ⊎_elim, arith}
-use Rattle.std.proofs.lemmas.List.{take_at, drop_at, length-take-le}
+use Rattle.std.proofs.Common.{◌≡◌, ℕ, ◌+◌, ◌<◌, ◌≤◌, Bool, true, false, List, [], ◌++◌, length, take, drop, set, replicate, Some, None, Option, sym, refl, ap, ◌∙◌, subst, ⊎_elim, arith, length-set}
+use Rattle.std.proofs.lemmas.List.{take_at, drop_at, length-take-le, length-replicate}
 use Rattle.chart.specs.declared.leg.Leg.{Leg}
 use Rattle.chart.specs.Limits.{max_fixes}
 use Rattle.chart.specs.Legs.{Charted}
 use Rattle.chart.specs.Regret.{Trip, trip, LeastRegret}
 use Rattle.chart.specs.Floors.{Begins}
 use Rattle.chart.proofs.Short.{routes_short}
-use Rattle.regret.proofs.Walks.{walks_start}
+use Rattle.regret.specs.Walks.{Walk}
+use Rattle.regret.proofs.Walks.{walk_start}
 use Rattle.least.specs.declared.found.Found.{Found}
 use Rattle.least.specs.Sweeps.{list_of, Swept, Ready, Least}
 use Rattle.least.specs.Answers.{Written}
 
 pub ready_first : {t : Trip} {fixes : ℕ} {chain : List ℕ} {used : List Bool} {best : List ℕ} → Charted fixes t.legs → t.from < fixes → length chain ≡ max_fixes → used ≡ replicate max_fixes false → length best ≡ max_fixes → Ready t fixes chain 0 t.from (set used t.from true) best None
 ready_first {t = t} {used = used} charted leaves chains unset bests =
-    let w = walks_start t.legs t.from [] used unset (omega (arith, charted.most)) in
-    record { charted = charted; leaves = leaves; chains = chains; useds = w.1; bests = bests; walk = w.0; sound = tt }
+    record {
+      charted = charted;
+      leaves = leaves;
+      chains = chains;
+      useds = ap (λ u. length (set u t.from true)) unset ∙ length-set (replicate max_fixes false) t.from true ∙ length-replicate max_fixes false;
+      bests = bests;
+      walk = subst (λ u. Walk t.legs t.from [] t.from (set u t.from true)) (sym unset) (walk_start t.legs max_fixes t.from (omega (arith, charted.most)));
+      sound = tt;
+    }
 
 pub least_of : (t : Trip) (best : List ℕ) (r : Option Found) (best' : List ℕ) → Swept t None best r best' (Begins []) → Least t r best'
 least_of t best None best' s = λ q flies. s.all q flies (q, refl)

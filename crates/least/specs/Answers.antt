@@ -1,6 +1,8 @@
 -- What the call for the route of least regret answers.
-use Rattle.std.specs.Prelude.{◌≡◌, ℕ, ◌+◌, ◌<◌, ◌≤◌, List, length, take, drop, Ok, Err, Result}
+use Rattle.std.specs.Prelude.{◌≡◌, ℕ, ◌+◌, ◌<◌, ◌≤◌, List, length, take, drop, Ok, Err, Result, codes}
 use Rattle.chart.specs.Regret.{Trip, Flies, LeastRegret}
+use Rattle.floor.specs.declared.refusals.FloorRefusal.TheVariants.{NoRoute as FloorNoRoute}
+use Rattle.floor.specs.Answers.{floor_words}
 use Rattle.least.specs.declared.found.Found.{Found}
 use Rattle.least.specs.declared.refusals.RouteRefusal.{RouteRefusal}
 use Rattle.least.specs.declared.refusals.RouteRefusal.TheVariants.{ShortMemory, NoRoute}
@@ -9,6 +11,11 @@ use Rattle.least.specs.declared.refusals.RouteRefusal.TheVariants.{ShortMemory, 
 abbrev pub route_number : RouteRefusal → ℕ
 route_number ShortMemory = 15
 route_number NoRoute = 25
+
+-- what each says in words
+abbrev pub route_words : RouteRefusal → List ℕ
+route_words ShortMemory = codes "fewer places of memory than a route can have legs"
+route_words NoRoute = floor_words FloorNoRoute
 
 -- the first places of the memory hold the route of least regret, and the places after it are what they were
 pub record Written (t : Trip) (fixes : ℕ) (memory : List ℕ) (f : Found) (memory' : List ℕ) : Type 0 where

@@ -4,11 +4,11 @@ use Rattle.chart.specs.Limits.{max_fixes}
 use Rattle.chart.specs.Legs.{Charted}
 use Rattle.chart.specs.Regret.{Trip, trip, Flies, Regret, Beats, LeastRegret}
 use Rattle.chart.specs.Floors.{Begins}
+use Rattle.chart.specs.declared.ends.Ends.{Ends}
 use Rattle.search.specs.declared.snapshot.Snapshot.{Snapshot}
 use Rattle.search.specs.Snapshots.{legs_of}
 use Rattle.regret.specs.Walks.{Walk}
 use Rattle.least.specs.declared.found.Found.{Found}
-use Rattle.least.specs.declared.found.Ends.{Ends}
 
 -- the trip between two ends on the legs of a snapshot
 abbrev pub trip_on : Snapshot → Ends → Trip

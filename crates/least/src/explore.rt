@@ -4,9 +4,10 @@ ghost use Rattle.chart.specs.Floors.{Begins};
 ghost use Rattle.search.specs.Snapshots.{fixes_of};
 ghost use Rattle.least.specs.Sweeps.{trip_on, Ready, Swept, GoesOn};
 
-use super::found::{Ends, Found};
+use super::found::Found;
 use super::hopeless::hopeless;
 use super::weigh::weigh;
+use chart::ends::Ends;
 use regret::walking::step;
 use search::snapshot::Snapshot;
 

@@ -4,8 +4,9 @@ ghost use Rattle.std.specs.Prelude.{◌≡◌, ◌≤◌, length, take, MatchBoo
 ghost use Rattle.chart.specs.Regret.{Beats};
 ghost use Rattle.least.specs.Sweeps.{trip_on, list_of, Fits, Hopeless};
 
-use super::found::{Ends, Found};
+use super::found::Found;
 use super::orders::comes_before;
+use chart::ends::Ends;
 use floor::floors::floor_on;
 use floor::refusals::FloorRefusal;
 use search::snapshot::Snapshot;
@@ -40,7 +41,7 @@ pub(crate) fn hopeless(
     ensures { MatchBool result (Hopeless (trip_on snapshot.now ends) (take depth chain.now) found best.now) (Unit {0}) }
 {
     let list = &chain[0..depth];
-    match floor_on(snapshot, ends.from, ends.to, list) {
+    match floor_on(snapshot, ends, list) {
         Err(FloorRefusal::NoRoute) => true,
         Err(FloorRefusal::NotAChain) => false,
         Ok(floor) => match found {

@@ -1,8 +1,14 @@
-// Why there is no route of least regret to answer. Each case has one number.
-ghost use Rattle.std.specs.Prelude.{◌≡◌};
-ghost use Rattle.least.specs.Answers.{route_number};
+// Why there is no route of least regret to answer.
+ghost use Rattle.std.specs.Prelude.{Some};
+ghost use Rattle.least.specs.Answers.{route_number, route_words};
 
-#[derive(Clone, Copy)]
+use chart::refusals::Refusal;
+use floor::refusals::FloorRefusal;
+use std::error::Error;
+use std::fmt;
+
+// Why no route is written.
+#[derive(Clone, Copy, Debug, PartialEq, Eq)]
 pub enum RouteRefusal {
     // The memory has no room for the longest route that the chart could have.
     ShortMemory,
@@ -10,13 +16,28 @@ pub enum RouteRefusal {
     NoRoute,
 }
 
-impl RouteRefusal {
-    pub fn number(&self) -> u8
-        ensures { result ≡ route_number self.now }
-    {
+impl Refusal for RouteRefusal {
+    ghost number_of = { route_number };
+
+    fn number(&self) -> u8 {
         match *self {
             RouteRefusal::ShortMemory => 15,
             RouteRefusal::NoRoute => 25,
         }
     }
 }
+
+impl fmt::Display for RouteRefusal {
+    ghost output = { λ refusal. Some (route_words refusal) };
+
+    fn fmt<W: fmt::Write>(&self, f: &mut fmt::Formatter<W>) -> fmt::Result {
+        match self {
+            RouteRefusal::ShortMemory => {
+                f.write_str("fewer places of memory than a route can have legs")
+            }
+            RouteRefusal::NoRoute => FloorRefusal::NoRoute.fmt(f),
+        }
+    }
+}
+
+impl Error for RouteRefusal {}

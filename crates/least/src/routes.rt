@@ -6,10 +6,11 @@ ghost use Rattle.least.specs.Sweeps.{trip_on, Least};
 ghost use Rattle.least.specs.Answers.{RouteAnswer};
 
 use super::explore::explore;
-use super::found::{Ends, Found};
+use super::found::Found;
 use super::orders::copy_front;
 use super::refusals::RouteRefusal;
 use chart::charts::Chart;
+use chart::ends::Ends;
 use chart::limits::MAX_FIXES;
 use search::snapshot::Snapshot;
 
@@ -31,25 +32,20 @@ fn find(
     explore(snapshot, ends, chain, 0, ends.from, used, best, None)
 }
 
-// Writes the route of least regret from the departure to the destination into the first places of the memory. There are to be
+// Writes the route of least regret between two ends into the first places of the memory. There are to be
 // as many places as the longest route could have legs. Where it is refused the memory stays as it is.
 pub fn least_regret<C: Chart>(
     chart: &C,
-    departure: u16,
-    destination: u16,
+    ends: Ends,
     memory: &mut [u16],
 ) -> Result<Found, RouteRefusal>
-    ensures answers { RouteAnswer (trip (C.legs chart.now) departure destination) (C.fixes chart.now) memory.old result memory.new }
+    ensures answers { RouteAnswer (trip (C.legs chart.now) ends.from ends.to) (C.fixes chart.now) memory.old result memory.new }
     ensures unique { LeastRegretIsUnique }
 {
     if memory.len() + 1 < chart.n() as usize {
         return Err(RouteRefusal::ShortMemory);
     }
     let snapshot = Snapshot::of(chart);
-    let ends = Ends {
-        from: departure,
-        to: destination,
-    };
     let mut chain = [0u16; MAX_FIXES];
     let mut used = [false; MAX_FIXES];
     let mut best = [0u16; MAX_FIXES];

@@ -3,8 +3,9 @@ ghost use Rattle.std.specs.Prelude.{◌≡◌, ◌≤◌, length, MatchBool};
 ghost use Rattle.chart.specs.Limits.{max_fixes};
 ghost use Rattle.least.specs.Sweeps.{trip_on, Sound, Better, NoBetter, Fits, Swept, Only};
 
-use super::found::{Ends, Found};
+use super::found::Found;
 use super::orders::{comes_before, copy_front};
+use chart::ends::Ends;
 use regret::refusals::RegretRefusal;
 use regret::regrets::regret_on;
 use search::snapshot::Snapshot;
@@ -39,7 +40,7 @@ pub(crate) fn weigh(
     requires sound { Sound (trip_on snapshot.now ends) found best.old }
     ensures { Swept (trip_on snapshot.now ends) found best.old result best.new (Only list.now) }
 {
-    let x = match regret_on(snapshot, ends.from, ends.to, list) {
+    let x = match regret_on(snapshot, ends, list) {
         Ok(x) => x,
         Err(RegretRefusal::NotARoute) => return found,
     };

@@ -1,19 +1,23 @@
 -- The regret of a route from the best total in its worst choice, and a walk one leg longer.
-use Rattle.std.proofs.Common.{◌≡◌, ℕ, ◌+◌, ◌*◌, ◌<◌, ◌≤◌, Bool, true, false, List, [], ◌∷◌, ◌++◌, length, get_or, take, set, replicate, sym, refl, ap, ◌∙◌, subst, arith, length-set}
-use Rattle.std.proofs.lemmas.List.{take_more, take_all, length-replicate}
+use Rattle.std.proofs.Common.{◌≡◌, ℕ, ◌+◌, ◌-◌, ◌*◌, ◌<◌, ◌≤◌, Bool, true, false, List, [], ◌∷◌, ◌++◌, length, get_or, take, set, replicate, Some, Ok, Err, sym, ap, ◌∙◌, subst, subst₂, arith}
+use Rattle.std.proofs.lemmas.List.{take_more, take_all}
 use Rattle.chart.specs.declared.leg.Leg.{Leg}
 use Rattle.chart.specs.Limits.{max_fixes, max_legs, max_seconds}
 use Rattle.chart.specs.Legs.{at, Charted}
 use Rattle.chart.specs.Routes.{Chain, Route}
 use Rattle.chart.specs.Kinds.{seconds_rule}
 use Rattle.chart.specs.Best.{total_from, Best}
-use Rattle.chart.specs.Regret.{trip, time, LeastTime, Regret, Worst}
+use Rattle.chart.specs.Regret.{Trip, trip, Flies, time, LeastTime, Regret, Worst}
 use Rattle.chart.specs.Floors.{highs}
 use Rattle.chart.proofs.Short.{chain_short}
 use Rattle.chart.proofs.Within.{route_goes_away}
-use Rattle.regret.specs.Walks.{Flags, Steps, Along}
+use Rattle.regret.specs.declared.walked.Walked.{Walked}
+use Rattle.regret.specs.Walks.{Flags, Steps, StepsAlong, Walk, Along}
 use Rattle.regret.specs.Marked.{time_by, marked_times}
-use Rattle.regret.proofs.Walks.{off_false, flags_push, flags_none, walks_start, walks_again}
+use Rattle.regret.specs.declared.refusals.RegretRefusal.{RegretRefusal}
+use Rattle.regret.specs.declared.refusals.RegretRefusal.TheVariants.{NotARoute}
+use Rattle.regret.specs.Answers.{RegretAnswer}
+use Rattle.regret.proofs.Walks.{off_false, flags_push, flags_none, walk_start, walk_push}
 use Rattle.regret.proofs.Worsts.{worst_choice_gives_regret, time_same}
 
 -- the time of each leg where the marked legs take their high time and all others their low
@@ -56,52 +60,23 @@ module _ (legs : List Leg) (s t : ℕ) (marks : List Bool) (p : List ℕ) (flags
       worst_choice_gives_regret (trip legs s t) p (chosen legs marks) b x route (marks_worst legs marks p flags) (best_is_least legs s t marks b best) (takes ∙ e)
 
 -- before the first leg
-pub along_start : (legs : List Leg) (s : ℕ) (used marks : List Bool) → s < max_fixes → used ≡ replicate max_fixes false → marks ≡ replicate max_legs false → Along legs s [] s 0 (set used s true) marks
-along_start legs s used marks lt eu em =
-    let w = walks_start legs s [] used eu lt in
-    record {
-      walk = w.0;
-      useds = w.1;
-      flags = subst (λ m. Flags m []) (sym em) (flags_none max_legs);
-      markeds = ap length em ∙ length-replicate max_legs false;
-      sums = refl;
-    }
+pub along_start : (legs : List Leg) (s : ℕ) (w : Walked) → s < max_fixes → w.end ≡ s → w.high ≡ 0 → w.used ≡ set (replicate max_fixes false) s true → w.marks ≡ replicate max_legs false → Along legs s [] w
+along_start legs s w lt end high used marks = record {
+  walk = subst₂ (λ z u. Walk legs s [] z u) (sym end) (sym used) (walk_start legs max_fixes s lt);
+  flags = subst (λ m. Flags m []) (sym marks) (flags_none max_legs);
+  sums = high;
+}
 
 -- the sum of high times is small
-time_small : (legs : List Leg) (ks : List ℕ) → time (highs legs) ks ≤ max_seconds * length ks
-time_small legs [] = omega arith
-time_small legs (k ∷ ks) = let h = time_small legs ks in let b = (at legs k).bounded in omega arith
+pub highs_small : (legs : List Leg) (ks : List ℕ) → time (highs legs) ks ≤ max_seconds * length ks
+highs_small legs [] = omega arith
+highs_small legs (k ∷ ks) = let h = highs_small legs ks in let b = (at legs k).bounded in omega arith
 
-pub high_small : {fixes : ℕ} (legs : List Leg) → Charted fixes legs → (s : ℕ) (ks : List ℕ) (z high : ℕ) (used marks : List Bool) → s < fixes → Along legs s ks z high used marks → high + max_seconds ≤ max_seconds * max_fixes
-high_small {fixes = fixes} legs charted s ks z high used marks lt along =
-    let few = chain_short fixes legs charted ks s z lt along.walk.chain in
-    let small = time_small legs ks in
+pub high_small : {fixes : ℕ} (legs : List Leg) → Charted fixes legs → (s : ℕ) (ks : List ℕ) (w : Walked) → s < fixes → Along legs s ks w → w.high + max_seconds ≤ max_seconds * max_fixes
+high_small {fixes = fixes} legs charted s ks w lt along =
+    let few = chain_short fixes legs charted ks s w.end lt along.walk.chain in
+    let small = highs_small legs ks in
     omega (arith, charted.most, along.sums)
-
--- one leg on
-module _ (legs : List Leg) (s : ℕ) (list : List ℕ) (i z high : ℕ) (used marks : List Bool) (along : Along legs s (take i list) z high used marks) (lt : i < length list) where
-  pub along_again : (leg : Leg) → leg ≡ at legs (get_or list i 0) → leg.to < max_fixes → get_or list i 0 < max_legs → Steps legs z used (get_or list i 0) → (high' : ℕ) → high' ≡ high + leg.high →
-      Along legs s (take (i + 1) list) leg.to high' (set used leg.to true) (set marks (get_or list i 0) true)
-  along_again leg e small known st high' sum =
-      let k = get_or list i 0 in
-      let m = take_more list i 0 lt in
-      let to : leg.to ≡ (at legs k).to = ap (λ (l : Leg). l.to) e in
-      let h : leg.high ≡ (at legs k).high = ap (λ (l : Leg). l.high) e in
-      let w = walks_again legs s list i z used along.walk leg.to along.useds lt to small st in
-      record {
-        walk = w.0;
-        useds = w.1;
-        flags = subst (λ ks. Flags (set marks k true) ks) (sym m) (flags_push marks (take i list) k (omega (arith, along.markeds)) along.flags);
-        markeds = length-set marks k true ∙ along.markeds;
-        sums =
-            let p = time_push (highs legs) (take i list) k in
-            let q : high' ≡ time (highs legs) (take i list ++ k ∷ []) = omega (arith, along.sums) in
-            q ∙ ap (time (highs legs)) (sym m);
-      }
-
-pub along_end : (legs : List Leg) (s : ℕ) (list : List ℕ) (i z high : ℕ) (used marks : List Bool) → Along legs s (take i list) z high used marks → length list ≤ i → Along legs s list z high used marks
-along_end legs s list i z high used marks along le =
-    subst (λ ks. Along legs s ks z high used marks) (take_all i list le) along
 
 -- a leg that leads on is one of the chart's
 pub record Known (leg : Leg) (k : ℕ) : Type 0 where
@@ -115,7 +90,41 @@ step_known legs charted z used k leg e st =
     let to : leg.to ≡ (at legs k).to = ap (λ (l : Leg). l.to) e in
     record { to_small = omega (arith, charted.most); number_small = omega (arith, charted.few) }
 
+-- one leg on, and at the end of the list
+module _ {fixes : ℕ} (legs : List Leg) (charted : Charted fixes legs) (s : ℕ) (list : List ℕ) (i : ℕ) (w : Walked) (along : Along legs s (take i list) w) where
+  pub along_again : i < length list → (leg : Leg) → StepsAlong legs w.end w.used (get_or list i 0) (Some leg) → (w' : Walked) → w'.end ≡ leg.to → w'.high ≡ w.high + leg.high → w'.used ≡ set w.used leg.to true → w'.marks ≡ set w.marks (get_or list i 0) true → Along legs s (take (i + 1) list) w'
+  along_again lt leg st w' end high used marks =
+      let k = get_or list i 0 in
+      let m = take_more list i 0 lt in
+      let known = step_known legs charted w.end w.used k leg st.0 st.1 in
+      let to : leg.to ≡ (at legs k).to = ap (λ (l : Leg). l.to) st.0 in
+      let h : leg.high ≡ (at legs k).high = ap (λ (l : Leg). l.high) st.0 in
+      let walk = walk_push legs s (take i list) w.end w.used along.walk k st.1 (omega (arith, known.to_small, w.flagged)) in
+      record {
+        walk = subst (λ ks. Walk legs s ks w'.end w'.used) (sym m)
+            (subst₂ (λ z u. Walk legs s (take i list ++ k ∷ []) z u) (sym (end ∙ to)) (sym (used ∙ ap (λ x. set w.used x true) to)) walk);
+        flags = subst₂ (λ u ks. Flags u ks) (sym marks) (sym m) (flags_push w.marks (take i list) k (omega (arith, known.number_small, w.marked)) along.flags);
+        sums =
+            let p = time_push (highs legs) (take i list) k in
+            let q : w'.high ≡ time (highs legs) (take i list ++ k ∷ []) = omega (arith, along.sums) in
+            q ∙ ap (time (highs legs)) (sym m);
+      }
+
+  pub along_end : length list ≤ i → Along legs s list w
+  along_end le = subst (λ ks. Along legs s ks w) (take_all i list le) along
+
 -- a chain to the destination is a route, where any route leads there
 pub chain_is_route : (legs : List Leg) (s t z : ℕ) (ks : List ℕ) → Chain legs s ks z → z ≡ t → (q : List ℕ) → Route legs s t q → Route legs s t ks
 chain_is_route legs s t z [] c e q r = absurd (route_goes_away legs s q (subst (λ v. Route legs s v q) (sym (c.leads ∙ e)) r))
 chain_is_route legs s t z (k ∷ ks) c e q r = record { chain = subst (λ v. Chain legs s (k ∷ ks) v) e c; some = omega arith }
+
+-- the regret of a list that was walked along to the destination, from the best total in its worst choice
+pub regret_found : (legs : List Leg) (s t : ℕ) (ks : List ℕ) (w : Walked) → Along legs s ks w → w.end ≡ t → (b : ℕ) → Best (seconds_rule (marked_times w.marks)) legs s t b → (b ≤ w.high) × RegretAnswer (trip legs s t) ks (Ok (w.high - b))
+regret_found legs s t ks w along e b best =
+    let route = chain_is_route legs s t w.end ks along.walk.chain e best.some.0 best.some.1 in
+    let below = best_below legs s t w.marks ks along.flags w.high along.sums route b best in
+    (below, (route, high_over_best legs s t w.marks ks along.flags w.high along.sums route b best (w.high - b) (omega arith)))
+
+-- the one refusal says that the list is no route
+pub not_a_route : (t : Trip) (ks : List ℕ) (e : RegretRefusal) → (Flies t ks → ⊥) → RegretAnswer t ks (Err e)
+not_a_route t ks NotARoute n = n

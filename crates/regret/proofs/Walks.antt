@@ -1,10 +1,9 @@
 -- A walk one leg longer, where it cannot go on, and where it ends.
-use Rattle.std.proofs.Common.{◌≡◌, ℕ, ◌+◌, ◌<◌, ◌≤◌, Bool, true, false, List, [], ◌∷◌, ◌++◌, length, get_or, take, drop, set, replicate, sym, refl, ap, ◌∙◌, subst, ⊎_elim, arith, length-set}
-use Rattle.std.proofs.lemmas.List.{get_or-set_same, get_or-set_other, get_or_past, get_or-replicate, length-replicate, take-append-drop, drop_more, take_more, take_all}
+use Rattle.std.proofs.Common.{◌≡◌, ℕ, ◌+◌, ◌<◌, Bool, true, false, List, [], ◌∷◌, ◌++◌, length, get_or, take, drop, set, replicate, sym, refl, ap, ◌∙◌, subst, ⊎_elim, arith}
+use Rattle.std.proofs.lemmas.List.{get_or-set_same, get_or-set_other, get_or_past, get_or-replicate, length-replicate, take-append-drop, drop_more}
 use Rattle.std.proofs.lemmas.Bool.{cases_eq, cases_lt}
 use Rattle.chart.specs.declared.leg.Leg.{Leg}
 use Rattle.chart.specs.declared.row.Standing.TheVariants.{Open}
-use Rattle.chart.specs.Limits.{max_fixes}
 use Rattle.chart.specs.Legs.{at}
 use Rattle.chart.specs.Routes.{entered, met, In, Once, Chain}
 use Rattle.chart.proofs.Chains.{leads_push, leads_on, entered_append, in_front, in_mid, in_end, once_push, once_at}
@@ -75,25 +74,7 @@ read_steps legs z used k leg lt e from stands fresh = record {
 pub split_at : (list : List ℕ) (i : ℕ) → i < length list → list ≡ take i list ++ get_or list i 0 ∷ drop (i + 1) list
 split_at list i lt = sym (take-append-drop i list) ∙ ap (λ r. take i list ++ r) (drop_more list i 0 lt)
 
--- walking along a list, place by place
-module _ (legs : List Leg) (s : ℕ) (list : List ℕ) where
-  pub walks_start : (used : List Bool) → used ≡ replicate max_fixes false → s < max_fixes → Walk legs s [] s (set used s true) × (length (set used s true) ≡ max_fixes)
-  walks_start used e lt =
-      subst (λ u. Walk legs s [] s (set u s true) × (length (set u s true) ≡ max_fixes)) (sym e)
-      (walk_start legs max_fixes s lt, length-set (replicate max_fixes false) s true ∙ length-replicate max_fixes false)
-
-  module _ (i here : ℕ) (used : List Bool) (walk : Walk legs s (take i list) here used) where
-    pub walks_again : (z : ℕ) → length used ≡ max_fixes → i < length list → z ≡ (at legs (get_or list i 0)).to → z < max_fixes → Steps legs here used (get_or list i 0) → Walk legs s (take (i + 1) list) z (set used z true) × (length (set used z true) ≡ max_fixes)
-    walks_again z l lt e small st =
-        let k = get_or list i 0 in (
-          subst (λ ks. Walk legs s ks z (set used z true)) (sym (take_more list i 0 lt))
-              (subst (λ y. Walk legs s (take i list ++ k ∷ []) y (set used y true)) (sym e) (walk_push legs s (take i list) here used walk k st (omega arith))),
-          length-set used z true ∙ l,
-        )
-
-    pub walks_stuck : i < length list → (Steps legs here used (get_or list i 0) → ⊥) → NoChain legs s list
-    walks_stuck lt n t c =
-        n (chain_steps legs s (take i list) here used walk (get_or list i 0) t (drop (i + 1) list) (subst (λ ks. Chain legs s ks t) (split_at list i lt) c))
-
-    pub walks_end : length list ≤ i → Walk legs s list here used
-    walks_end le = subst (λ ks. Walk legs s ks here used) (take_all i list le) walk
+-- a walk along the front of a list that does not go on
+pub walk_stuck : (legs : List Leg) (s : ℕ) (list : List ℕ) (i z : ℕ) (used : List Bool) → Walk legs s (take i list) z used → i < length list → (Steps legs z used (get_or list i 0) → ⊥) → NoChain legs s list
+walk_stuck legs s list i z used walk lt n t c =
+    n (chain_steps legs s (take i list) z used walk (get_or list i 0) t (drop (i + 1) list) (subst (λ ks. Chain legs s ks t) (split_at list i lt) c))

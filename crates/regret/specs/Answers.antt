@@ -1,5 +1,5 @@
 -- What the regret call answers.
-use Rattle.std.specs.Prelude.{ℕ, List, Ok, Err, Result}
+use Rattle.std.specs.Prelude.{ℕ, List, Ok, Err, Result, codes}
 use Rattle.chart.specs.Regret.{Trip, Flies, Regret}
 use Rattle.regret.specs.declared.refusals.RegretRefusal.{RegretRefusal}
 use Rattle.regret.specs.declared.refusals.RegretRefusal.TheVariants.{NotARoute}
@@ -7,6 +7,10 @@ use Rattle.regret.specs.declared.refusals.RegretRefusal.TheVariants.{NotARoute}
 -- the number of the refusal
 abbrev pub regret_number : RegretRefusal → ℕ
 regret_number NotARoute = 14
+
+-- what it says in words
+abbrev pub regret_words : RegretRefusal → List ℕ
+regret_words NotARoute = codes "not a route, or not a chain that leaves the departure"
 
 -- the regret of a route, or that the list is not one
 abbrev pub RegretAnswer : Trip → List ℕ → Result ℕ RegretRefusal → Type 0

@@ -1,12 +1,10 @@
 -- Walking along legs: flags for the fixes that are met and for the legs that are flown, and the sum of high times.
-use Rattle.std.specs.Prelude.{◌≡◌, ℕ, ◌<◌, Bool, true, false, List, length, get_or, Some, None, Option, slice_index_or}
+use Rattle.std.specs.Prelude.{◌≡◌, ℕ, ◌<◌, Bool, true, false, List, get_or, Some, None, Option, slice_index_or}
 use Rattle.chart.specs.declared.leg.Leg.{Leg}
-use Rattle.chart.specs.Limits.{max_fixes, max_legs}
 use Rattle.chart.specs.Legs.{at}
 use Rattle.chart.specs.Routes.{Leaves, Chain, met, In}
 use Rattle.chart.specs.Regret.{time}
 use Rattle.chart.specs.Floors.{highs}
-use Rattle.regret.specs.declared.walked.Reach.{Reach}
 use Rattle.regret.specs.declared.walked.Walked.{Walked}
 
 -- the flag of a number is set just where the number is in the list
@@ -29,24 +27,17 @@ pub record Walk (legs : List Leg) (s : ℕ) (ks : List ℕ) (z : ℕ) (used : Li
   pub chain : Chain legs s ks z
   pub flags : Flags used (met legs s ks)
 
--- a walk, with the legs ks marked and their high times summed
-pub record Along (legs : List Leg) (s : ℕ) (ks : List ℕ) (z high : ℕ) (used marks : List Bool) : Type 0 where
-  pub walk : Walk legs s ks z used
-  pub useds : length used ≡ max_fixes
-  pub flags : Flags marks ks
-  pub markeds : length marks ≡ max_legs
-  pub sums : high ≡ time (highs legs) ks
+-- w is the walk along the legs ks from s: it has the fixes that they meet used and the legs marked, and sums their high times
+pub record Along (legs : List Leg) (s : ℕ) (ks : List ℕ) (w : Walked) : Type 0 where
+  pub walk : Walk legs s ks w.end w.used
+  pub flags : Flags w.marks ks
+  pub sums : w.high ≡ time (highs legs) ks
 
 -- the list ks is no chain from s
 abbrev pub NoChain : List Leg → ℕ → List ℕ → Type 0
 NoChain legs s ks = (z : ℕ) → Chain legs s ks z → ⊥
 
--- where walking along the list ks from the fix s leads
-abbrev pub Reached : List Leg → ℕ → List ℕ → Option Reach → (used marks : List Bool) → Type 0
-Reached legs s ks None used marks = NoChain legs s ks
-Reached legs s ks (Some r) used marks = Along legs s ks r.end r.high used marks
-
 -- what walking along the list ks from s finds: none where s is no fix or ks no chain
 abbrev pub WalkedAlong : ℕ → List Leg → ℕ → List ℕ → Option Walked → Type 0
 WalkedAlong fixes legs s ks None = s < fixes → NoChain legs s ks
-WalkedAlong fixes legs s ks (Some w) = (s < fixes) × Along legs s ks w.end w.high w.used w.marks
+WalkedAlong fixes legs s ks (Some w) = (s < fixes) × Along legs s ks w

@@ -9,12 +9,10 @@ use chart::leg::Leg;
 pub fn is_marked(marks: &[bool], k: u16) -> bool
     ensures { result ≡ slice_index_or marks.now k false }
 {
-    if (k as usize) < marks.len() {
-        return marks[k as usize];
-    }
-    false
+    marks.get(k as usize).copied().unwrap_or(false)
 }
 
+// The marks of such a choice.
 #[derive(Clone, Copy)]
 pub struct Marked<'a> {
     pub marks: &'a [bool],
@@ -27,8 +25,9 @@ impl<'a> Choice for Marked<'a> {
 
     fn time(&self, k: u16, leg: &Leg) -> u32 {
         if is_marked(self.marks, k) {
-            return leg.high;
+            leg.high
+        } else {
+            leg.low
         }
-        leg.low
     }
 }

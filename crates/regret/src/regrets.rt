@@ -8,23 +8,17 @@ use super::marked::Marked;
 use super::refusals::RegretRefusal;
 use super::walking::walk;
 use chart::charts::Chart;
+use chart::ends::Ends;
 use chart::kinds::Seconds;
 use search::best::best_on;
 use search::snapshot::Snapshot;
 
-// The regret of a list of legs from the departure to the destination, on a snapshot.
-pub fn regret_on(
-    snapshot: &Snapshot,
-    departure: u16,
-    destination: u16,
-    list: &[u16],
-) -> Result<u32, RegretRefusal>
-    ensures { RegretAnswer (trip (legs_of snapshot.now) departure destination) list.now result }
+// The regret of a list of legs between two ends, on a snapshot.
+pub fn regret_on(snapshot: &Snapshot, ends: Ends, list: &[u16]) -> Result<u32, RegretRefusal>
+    ensures { RegretAnswer (trip (legs_of snapshot.now) ends.from ends.to) list.now result }
 {
-    let Some(walked) = walk(snapshot, departure, list) else {
-        return Err(RegretRefusal::NotARoute);
-    };
-    if walked.end != destination {
+    let walked = walk(snapshot, ends.from, list).ok_or(RegretRefusal::NotARoute)?;
+    if walked.end != ends.to {
         return Err(RegretRefusal::NotARoute);
     }
     let worst = Seconds {
@@ -32,23 +26,16 @@ pub fn regret_on(
             marks: &walked.marks,
         },
     };
-    match best_on(snapshot, &worst, departure, destination) {
-        None => Err(RegretRefusal::NotARoute),
-        Some(best) => Ok(walked.high - best),
-    }
+    let best = best_on(snapshot, &worst, ends).ok_or(RegretRefusal::NotARoute)?;
+    Ok(walked.high - best)
 }
 
-// The regret of a list of legs from the departure to the destination: it is refused where the list is no route.
-pub fn regret<C: Chart>(
-    chart: &C,
-    departure: u16,
-    destination: u16,
-    list: &[u16],
-) -> Result<u32, RegretRefusal>
-    ensures answers { RegretAnswer (trip (C.legs chart.now) departure destination) list.now result }
+// The regret of a list of legs between two ends: it is refused where the list is no route.
+pub fn regret<C: Chart>(chart: &C, ends: Ends, list: &[u16]) -> Result<u32, RegretRefusal>
+    ensures answers { RegretAnswer (trip (C.legs chart.now) ends.from ends.to) list.now result }
     ensures worst_choice { WorstChoiceGivesRegret }
     ensures unique { RegretIsUnique }
 {
     let snapshot = Snapshot::of(chart);
-    regret_on(&snapshot, departure, destination, list)
+    regret_on(&snapshot, ends, list)
 }

@@ -10,13 +10,13 @@ returns-in_default c ks along lt = absurd (numbered_not (legs_of c.args.snapshot
 pub returns-then-is_used_beside : goal.returns-then-is_used_beside
 returns-then-is_used_beside c ks along lt =
     let legs = legs_of c.args.snapshot.now in
-    let w = c.args.walked.now in
     let is = numbered_is legs c.args.k c.in-Some.leg lt c.in-Some.ensures in
-    shut_by_left legs c.args.departure ks w.end w.high w.used w.marks along c.args.k c.in-Some.leg is (sym c.if-is_marked.ensures) _ _ (omega arith) (omega arith) c.if-is_used_beside.ensures
+    let shut = shut_by_left legs c.args.departure ks c.args.walked.now along c.args.k c.in-Some.leg is (sym c.if-not-is_marked.ensures) _ _ (omega arith) (omega arith) c.if-is_used_beside.ensures in
+    rw c.if-is_used_beside.true shut
 
-pub returns : goal.returns
-returns c ks along lt =
+pub returns-else-is_used_beside : goal.returns-else-is_used_beside
+returns-else-is_used_beside c ks along lt =
     let legs = legs_of c.args.snapshot.now in
-    let w = c.args.walked.now in
     let is = numbered_is legs c.args.k c.in-Some.leg lt c.in-Some.ensures in
-    shut_by_entered legs c.args.departure ks w.end w.high w.used w.marks along c.args.k c.in-Some.leg is (sym c.if-is_marked.ensures) _ _ (omega arith) (omega arith) c.if-is_used_beside.ensures _ _ (omega arith) (omega arith) c.is_used_beside-2.result c.is_used_beside-2.ensures
+    let again = c.is_used_beside-else-is_used_beside in
+    shut_by_entered legs c.args.departure ks c.args.walked.now along c.args.k c.in-Some.leg is (sym c.if-not-is_marked.ensures) _ _ (omega arith) (omega arith) c.if-is_used_beside.ensures _ _ (omega arith) (omega arith) again.result again.ensures

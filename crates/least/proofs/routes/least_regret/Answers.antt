@@ -12,7 +12,7 @@ pub returns-in_default : goal.returns-in_default
 returns-in_default g c = record {
   answers = (
     omega (arith, c.if-memory-n.false, c.n.ensures),
-    subst (λ legs. Least (trip legs c.args.departure c.args.destination) None c.find.new.best) c.of-snapshot.ensures.same_legs c.in_default.ensures,
+    subst (λ legs. Least (trip legs c.args.ends.from c.args.ends.to) None c.find.new.best) c.of-snapshot.ensures.same_legs c.in_default.ensures,
     refl,
   );
   unique = least_regret_is_unique;
@@ -22,7 +22,7 @@ pub copy_front-requires : goal.copy_front-requires
 copy_front-requires g c =
     let found = c.in-Some.found in
     let best = c.find.new.best in
-    let fits = found_fits (g.C.Chart.charted c.args.chart.now) c.of-snapshot.ensures.same_legs c.args.departure c.args.destination found best c.in-Some.ensures c.args.memory.now (omega (arith, c.if-memory-n.false, c.n.ensures)) in
+    let fits = found_fits (g.C.Chart.charted c.args.chart.now) c.of-snapshot.ensures.same_legs c.args.ends.from c.args.ends.to found best c.in-Some.ensures c.args.memory.now (omega (arith, c.if-memory-n.false, c.n.ensures)) in
     omega (arith, length-take (found.legs - 0) best)
 
 pub returns : goal.returns
@@ -33,7 +33,7 @@ returns g c =
     let memory' = c.copy_front.new.into in
     let whole : found.legs - 0 ≡ found.legs = omega arith in
     record {
-      answers = found_written (g.C.Chart.charted c.args.chart.now) c.of-snapshot.ensures.same_legs c.args.departure c.args.destination found best c.in-Some.ensures memory (omega (arith, c.if-memory-n.false, c.n.ensures)) memory'
+      answers = found_written (g.C.Chart.charted c.args.chart.now) c.of-snapshot.ensures.same_legs c.args.ends.from c.args.ends.to found best c.in-Some.ensures memory (omega (arith, c.if-memory-n.false, c.n.ensures)) memory'
           (subst (λ n. memory' ≡ take n best ++ drop (length (take n best)) memory) whole c.copy_front.ensures);
       unique = least_regret_is_unique;
     }

@@ -1,35 +1,45 @@
-use Rattle.std.proofs.Common.{arith}
-use Rattle.search.specs.Snapshots.{legs_of}
+use Rattle.std.proofs.Common.{◌-◌, ◌≤◌, Ok, subst, arith}
+use Rattle.std.proofs.lemmas.Result.{err_from_is_err_and}
+use Rattle.chart.specs.Kinds.{seconds_rule}
+use Rattle.chart.specs.Best.{BestTotal}
+use Rattle.chart.specs.Regret.{trip}
+use Rattle.search.specs.Snapshots.{fixes_of, legs_of}
 use Rattle.search.specs.Sound.{snapshot_charted}
 use Rattle.chart.proofs.Chains.{leads_end}
 use Rattle.chart.proofs.Within.{route_leaves_fix}
-use Rattle.regret.proofs.Losing.{best_below, high_over_best, chain_is_route}
+use Rattle.regret.specs.Answers.{RegretAnswer}
+use Rattle.regret.specs.Marked.{marked_times}
+use Rattle.regret.specs.Walks.{WalkedAlong}
+use Rattle.regret.proofs.Losing.{regret_found, not_a_route}
 use Rattle.regret.proofs.regrets.regret_on.Goals as goal
 
-pub returns-in_default : goal.returns-in_default
-returns-in_default c flies =
+pub returns-in_err-walked : goal.returns-in_err-walked
+returns-in_err-walked c =
     let s = c.args.snapshot.now in
-    c.in_default.ensures (route_leaves_fix (legs_of s) (snapshot_charted s) c.args.departure c.args.destination c.args.list.now flies) c.args.destination flies.chain
+    let ends = c.args.ends in
+    let none = subst (λ o. WalkedAlong (fixes_of s) (legs_of s) ends.from c.args.list.now o) c.in_err-walked.ensures.ok_part c.walk.ensures in
+    let p = err_from_is_err_and c.from_residual.result c.from_residual.ensures.1 in
+    rw p.1 (not_a_route (trip (legs_of s) ends.from ends.to) c.args.list.now _ (λ flies.
+    none (route_leaves_fix (legs_of s) (snapshot_charted s) ends.from ends.to c.args.list.now flies) ends.to flies.chain))
 
-pub returns-then-walked-destination : goal.returns-then-walked-destination
-returns-then-walked-destination c flies =
-    let along = c.in-Some.ensures.1 in
-    c.if-walked-destination.true
-    (leads_end (legs_of c.args.snapshot.now) c.args.list.now c.args.departure c.in-Some.walked.end c.args.destination along.walk.chain.leads flies.chain.leads)
+pub returns-then-walked-ends : goal.returns-then-walked-ends
+returns-then-walked-ends c flies =
+    let s = c.args.snapshot.now in
+    let along = (subst (λ o. WalkedAlong (fixes_of s) (legs_of s) c.args.ends.from c.args.list.now o) c.in_ok-walked.ensures.ok_part c.walk.ensures).1 in
+    c.if-walked-ends.true (leads_end (legs_of s) c.args.list.now c.args.ends.from c.in_ok-walked.walked.end c.args.ends.to along.walk.chain.leads flies.chain.leads)
+
+-- where both calls found something
+found : (c : goal.In_ok-best) → (c.in_ok-best.best ≤ c.in_ok-walked.walked.high) × RegretAnswer (trip (legs_of c.args.snapshot.now) c.args.ends.from c.args.ends.to) c.args.list.now (Ok (c.in_ok-walked.walked.high - c.in_ok-best.best))
+found c =
+    let s = c.args.snapshot.now in
+    let ends = c.args.ends in
+    let w = c.in_ok-walked.walked in
+    let along = subst (λ o. WalkedAlong (fixes_of s) (legs_of s) ends.from c.args.list.now o) c.in_ok-walked.ensures.ok_part c.walk.ensures in
+    let best = subst (λ o. BestTotal (seconds_rule (marked_times w.marks)) (legs_of s) ends.from ends.to o) c.in_ok-best.ensures.ok_part c.best_on.ensures in
+    regret_found (legs_of s) ends.from ends.to c.args.list.now w along.1 c.if-walked-ends.false c.in_ok-best.best best
 
 pub overflow_sub-result : goal.overflow_sub-result
-overflow_sub-result c =
-    let legs = legs_of c.args.snapshot.now in
-    let along = c.in-Some.ensures.1 in
-    let best = c.in-Some-best_on.ensures in
-    let route = chain_is_route legs c.args.departure c.args.destination c.in-Some.walked.end c.args.list.now along.walk.chain c.if-walked-destination.false best.some.0 best.some.1 in
-    omega (arith, best_below legs c.args.departure c.args.destination c.in-Some.walked.marks c.args.list.now along.flags c.in-Some.walked.high along.sums route c.in-Some-best_on.best best)
+overflow_sub-result c = let below = (found c).0 in omega arith
 
-pub returns-in-Some-best_on : goal.returns-in-Some-best_on
-returns-in-Some-best_on c =
-    let legs = legs_of c.args.snapshot.now in
-    let along = c.in-Some.ensures.1 in
-    let best = c.in-Some-best_on.ensures in
-    let route = chain_is_route legs c.args.departure c.args.destination c.in-Some.walked.end c.args.list.now along.walk.chain c.if-walked-destination.false best.some.0 best.some.1 in
-    let below = best_below legs c.args.departure c.args.destination c.in-Some.walked.marks c.args.list.now along.flags c.in-Some.walked.high along.sums route c.in-Some-best_on.best best in
-    (route, high_over_best legs c.args.departure c.args.destination c.in-Some.walked.marks c.args.list.now along.flags c.in-Some.walked.high along.sums route c.in-Some-best_on.best best _ (omega arith))
+pub returns : goal.returns
+returns c = (found c).1

@@ -1,0 +1,37 @@
+use Rattle.std.proofs.Common.{get_or, take, arith}
+use Rattle.search.specs.Snapshots.{legs_of}
+use Rattle.search.specs.Sound.{snapshot_charted}
+use Rattle.regret.proofs.Walks.{walk_stuck}
+use Rattle.regret.proofs.Losing.{along_start, along_again, high_small, step_known}
+use Rattle.regret.proofs.walking.walk.Goals as goal
+
+pub loop-k-init : goal.loop-k-init
+loop-k-init c =
+    let s = c.args.snapshot.now in
+    let at = c.at-walked.ensures in
+    along_start (legs_of s) c.args.from c.at-walked.result (omega (arith, (snapshot_charted s).most)) at.end at.high at.used at.marks
+
+pub returns-in_err-leg : goal.returns-in_err-leg
+returns-in_err-leg c =
+    let w = c.loop-k.walked in
+    rw c.from_residual.ensures (λ known. walk_stuck (legs_of c.args.snapshot.now) c.args.from c.args.list.now c.loop-k.k-index w.end w.used c.loop-k.invariant.walk c.loop-k-test.true c.in_err-leg.ensures)
+
+pub fly-requires-clause-places : goal.fly-requires-clause-places
+fly-requires-clause-places c =
+    let s = c.args.snapshot.now in
+    let w = c.loop-k.walked in
+    let st = c.in_ok-leg.ensures in
+    let known = step_known (legs_of s) (snapshot_charted s) w.end w.used (get_or c.args.list.now c.loop-k.k-index 0) c.in_ok-leg.leg st.0 st.1 in
+    (known.to_small, known.number_small)
+
+pub fly-requires-clause-sum : goal.fly-requires-clause-sum
+fly-requires-clause-sum c =
+    let s = c.args.snapshot.now in
+    let small = high_small (legs_of s) (snapshot_charted s) c.args.from (take c.loop-k.k-index c.args.list.now) c.loop-k.walked (omega arith) c.loop-k.invariant in
+    omega (arith, c.in_ok-leg.leg.bounded)
+
+pub loop-k-preserved : goal.loop-k-preserved
+loop-k-preserved c =
+    let s = c.args.snapshot.now in
+    let flown = c.fly.ensures in
+    along_again (legs_of s) (snapshot_charted s) c.args.from c.args.list.now c.loop-k.k-index c.loop-k.walked c.loop-k.invariant c.loop-k-test.true c.in_ok-leg.leg c.in_ok-leg.ensures c.fly.new.self flown.end flown.high flown.used flown.marks
