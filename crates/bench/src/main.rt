@@ -3,6 +3,7 @@
 #![tactic(auto)]
 
 use chart::charts::Chart;
+use chart::ends::Ends;
 use chart::kinds::Quickest;
 use chart::lattice::Lattice;
 use chart::row::{Row, Standing};
@@ -59,13 +60,11 @@ fn fill_rows(rows: &mut [Row]) {
 
 // The sum of the seconds and legs of many answers.
 fn sum_of_bests<C: Chart>(chart: &C) -> u64 {
-    let mut sum = 0u64;
-    for i in 0..CALLS {
-        if let Some(flown) = best(chart, &Quickest, i % 10, 199) {
-            sum = sum.saturating_add(flown.seconds as u64 + flown.legs as u64);
-        }
-    }
-    sum
+    (0..CALLS)
+        .filter_map(|i| best(chart, &Quickest, Ends { from: i % 10, to: 199 }))
+        .fold(0u64, |sum, flown| {
+            sum.saturating_add(u64::from(flown.seconds) + u64::from(flown.legs))
+        })
 }
 
 fn time<C: Chart>(rt: &HostRuntime, name: &str, chart: &C) -> io::Result<()> {
@@ -95,8 +94,7 @@ fn main(rt: HostRuntime) -> io::Result<()> {
         standing: Standing::Open,
     }; 1000];
     fill_rows(&mut rows);
-    let mut table = Table::new(&rows);
-    if let Ok(()) = table.take_rows(200) {
+    if let Ok(table) = Table::of(200, &rows) {
         time(&rt, "table", &table)?;
     }
     Ok(())

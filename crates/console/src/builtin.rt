@@ -1,10 +1,10 @@
 // The built-in task; and a longer one, which begins with a script over the files that the program carries, and goes on with
 // routes on the chart of one of them.
-use super::carried::carried;
+use super::carried::{Carried, carried};
 use super::file_routes::show_file;
 use super::grids::show_lattices;
 use super::scripts::answer;
-use super::session::{Charts, Session};
+use super::session::Session;
 use super::tables::{show_changed_tables, show_tables};
 
 const SCRIPT: [&str; 11] = [
@@ -28,9 +28,10 @@ pub fn show_task(rt: &HostRuntime) -> anyhow::Result<()> {
 }
 
 pub fn show_carried(rt: &HostRuntime) -> anyhow::Result<()> {
-    let mut session = Session::new(rt.alloc(), Charts::Carried);
+    let mut session = Session::new(rt.alloc(), Carried);
     for line in SCRIPT {
-        answer(rt, &mut session, line, true)?;
+        println!(rt; "> {line}")?;
+        answer(rt, &mut session, line)?;
     }
     if let Some(file) = carried("four-fixes.chart") {
         show_file(rt, file)?;

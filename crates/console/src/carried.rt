@@ -1,4 +1,6 @@
 // Files that the program carries, for its built-in task.
+use super::session::Files;
+use std::alloc::AllocError;
 
 // A chart of four fixes and five legs.
 const FOUR_FIXES: &[u8] =
@@ -22,5 +24,18 @@ pub fn carried(path: &str) -> Option<&'static [u8]> {
         "repeated.chart" => Some(REPEATED),
         "reversed.chart" => Some(REVERSED),
         _ => None,
+    }
+}
+
+// Paths lead to the files that the program carries.
+#[derive(Clone, Copy)]
+pub struct Carried;
+
+impl Files for Carried {
+    fn fetch(&self, rt: &HostRuntime, path: &str) -> Result<Option<Vec<u8>>, AllocError> {
+        match carried(path) {
+            Some(bytes) => Ok(Some(Vec::from_slice(rt.alloc(), bytes)?)),
+            None => Ok(None),
+        }
     }
 }

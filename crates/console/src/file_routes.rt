@@ -3,6 +3,7 @@ use super::replies::{show_best, show_refusal};
 use super::routes::{show_regrets, show_route_in};
 use super::session::blank_rows;
 use chart::charts::Chart;
+use chart::ends::Ends;
 use chart::limits::MAX_FIXES;
 use chart::table::Table;
 use reader::readers::Reader;
@@ -48,12 +49,12 @@ pub fn show_file(rt: &HostRuntime, file: &[u8]) -> anyhow::Result<()> {
     let legs = (counts.legs as usize).min(rows.len());
     let mut table = Table::new(&rows.as_slice()[0..legs]);
     if let Err(refusal) = reader.take_legs(&mut table) {
-        show_refusal(rt, "table", refusal.number())?;
+        show_refusal(rt, "table", refusal)?;
     }
-    show_best(rt, &table, 0, 3)?;
-    show_best(rt, &table, 3, 0)?;
+    show_best(rt, &table, Ends { from: 0, to: 3 })?;
+    show_best(rt, &table, Ends { from: 3, to: 0 })?;
     show_regrets(rt, &table)?;
     let mut memory = [0u16; MAX_FIXES];
-    let length = show_route_in(rt, &table, &mut memory)?;
-    show_met(rt, &table, &reader, 0, &memory[0..length.min(MAX_FIXES)])
+    let route = show_route_in(rt, &table, &mut memory)?;
+    show_met(rt, &table, &reader, 0, route)
 }

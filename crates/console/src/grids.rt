@@ -1,5 +1,7 @@
 // A lattice of 3 rows and 5 columns, and lattices that are refused.
 use super::replies::{show_best, show_chart, show_refusal};
+use chart::charts::Chart;
+use chart::ends::Ends;
 use chart::lattice::Lattice;
 use chart::step::{Interval, Step};
 use std::io;
@@ -27,10 +29,10 @@ fn show_lattice(
     match Lattice::new(rows, columns, top, steps) {
         Ok(lattice) => {
             show_chart(rt, "lattice", &lattice)?;
-            let fixes = rows.saturating_mul(columns);
-            show_best(rt, &lattice, 0, fixes.saturating_sub(1))
+            let last = lattice.n().saturating_sub(1);
+            show_best(rt, &lattice, Ends { from: 0, to: last })
         }
-        Err(refusal) => show_refusal(rt, "lattice", refusal.number()),
+        Err(refusal) => show_refusal(rt, "lattice", refusal),
     }
 }
 

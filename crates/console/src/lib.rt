@@ -9,7 +9,6 @@ pub mod grids;
 pub mod replies;
 pub mod routes;
 pub mod run;
-pub mod said;
 pub mod scripts;
 pub mod session;
 pub mod tables;

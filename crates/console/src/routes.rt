@@ -1,16 +1,20 @@
 // Regrets, floors and the route of least regret, each a command and its reply.
 use super::replies::show_refusal;
 use chart::charts::Chart;
+use chart::ends::Ends;
 use chart::limits::MAX_FIXES;
+use chart::refusals::Refusal;
 use floor::floors::floor;
 use least::routes::least_regret;
 use regret::regrets::regret;
 use std::io;
 
+// The ends of the four-fix chart.
+const ACROSS: Ends = Ends { from: 0, to: 3 };
+
 // Numbers, each after a space, and then the end of the line.
 fn show_list(rt: &HostRuntime, list: &[u16]) -> io::Result<()> {
     for k in list {
-        let k = *k;
         print!(rt; " {k}")?;
     }
     println!(rt; "")
@@ -21,20 +25,26 @@ fn show_command(rt: &HostRuntime, command: &str, list: &[u16]) -> io::Result<()>
     show_list(rt, list)
 }
 
-pub fn show_regret<C: Chart>(rt: &HostRuntime, chart: &C, list: &[u16]) -> io::Result<()> {
-    show_command(rt, "regret", list)?;
-    match regret(chart, 0, 3, list) {
-        Ok(seconds) => println!(rt; "regret {seconds}"),
-        Err(refusal) => show_refusal(rt, "regret", refusal.number()),
+// A command on a list of legs, and the seconds that it answers.
+fn show_seconds<R: Refusal>(
+    rt: &HostRuntime,
+    command: &str,
+    list: &[u16],
+    answer: Result<u32, R>,
+) -> io::Result<()> {
+    show_command(rt, command, list)?;
+    match answer {
+        Ok(seconds) => println!(rt; "{command} {seconds}"),
+        Err(refusal) => show_refusal(rt, command, refusal),
     }
 }
 
+pub fn show_regret<C: Chart>(rt: &HostRuntime, chart: &C, list: &[u16]) -> io::Result<()> {
+    show_seconds(rt, "regret", list, regret(chart, ACROSS, list))
+}
+
 pub fn show_floor<C: Chart>(rt: &HostRuntime, chart: &C, chain: &[u16]) -> io::Result<()> {
-    show_command(rt, "floor", chain)?;
-    match floor(chart, 0, 3, chain) {
-        Ok(seconds) => println!(rt; "floor {seconds}"),
-        Err(refusal) => show_refusal(rt, "floor", refusal.number()),
-    }
+    show_seconds(rt, "floor", chain, floor(chart, ACROSS, chain))
 }
 
 // The regrets and floors of some lists of legs of the four-fix chart.
@@ -50,24 +60,23 @@ pub fn show_regrets<C: Chart>(rt: &HostRuntime, chart: &C) -> io::Result<()> {
     show_floor(rt, chart, &[3])
 }
 
-// The route of least regret in the memory given, and how many legs it has.
-pub fn show_route_in<C: Chart>(
+// The route of least regret, in the first places of the memory given; no legs where it is refused.
+pub fn show_route_in<'a, C: Chart>(
     rt: &HostRuntime,
     chart: &C,
-    memory: &mut [u16; MAX_FIXES],
-) -> io::Result<usize> {
+    memory: &'a mut [u16; MAX_FIXES],
+) -> io::Result<&'a [u16]> {
     show_command(rt, "route", &[])?;
-    match least_regret(chart, 0, 3, memory) {
+    match least_regret(chart, ACROSS, memory) {
         Ok(found) => {
-            let seconds = found.regret;
-            print!(rt; "route regret {seconds} legs")?;
-            let legs = (found.legs as usize).min(MAX_FIXES);
-            show_list(rt, &memory[0..legs])?;
+            let legs = memory.get(..found.legs as usize).unwrap_or(&[]);
+            print!(rt; "route regret {} legs", found.regret)?;
+            show_list(rt, legs)?;
             Ok(legs)
         }
         Err(refusal) => {
-            show_refusal(rt, "route", refusal.number())?;
-            Ok(0)
+            show_refusal(rt, "route", refusal)?;
+            Ok(&[])
         }
     }
 }

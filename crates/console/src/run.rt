@@ -1,9 +1,20 @@
 // The program: the built-in task, the commands of a file, or those of standard input.
 use super::builtin::show_task;
 use super::scripts::follow;
-use super::session::{Charts, Session};
+use super::session::{Files, Session};
+use std::alloc::AllocError;
 use std::io::BufReader;
 use std::{env, fs};
+
+// Paths lead to the files below the working folder.
+#[derive(Clone, Copy)]
+pub struct Folder;
+
+impl Files for Folder {
+    fn fetch(&self, rt: &HostRuntime, path: &str) -> Result<Option<Vec<u8>>, AllocError> {
+        Ok(fs::read(rt, path).ok())
+    }
+}
 
 pub fn run(rt: &HostRuntime) -> anyhow::Result<()> {
     let mut args = env::args(rt)?;
@@ -11,7 +22,7 @@ pub fn run(rt: &HostRuntime) -> anyhow::Result<()> {
     let Some(script) = args.next() else {
         return show_task(rt);
     };
-    let mut session = Session::new(rt.alloc(), Charts::Folder);
+    let mut session = Session::new(rt.alloc(), Folder);
     if script.as_str() == "-" {
         return follow(rt, &mut session, &mut rt.stdin().lock());
     }

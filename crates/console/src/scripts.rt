@@ -1,30 +1,25 @@
 // Scripts: a command to a line, and a reply to each.
 use super::commands::parse;
-use super::session::Session;
+use super::session::{Files, Session};
 use std::io::BufRead;
 
-// The reply to one line, after the line itself where commands are shown; nothing for a remark.
-pub fn answer(
+// The reply to one line; nothing for a remark.
+pub fn answer<F: Files>(
     rt: &HostRuntime,
-    session: &mut Session,
+    session: &mut Session<F>,
     line: &str,
-    shown: bool,
 ) -> anyhow::Result<()> {
-    let Some(command) = parse(line) else {
-        return Ok(());
-    };
-    if shown {
-        println!(rt; "> {line}")?;
+    if let Some(command) = parse(line) {
+        let reply = session.reply(rt, command)?;
+        println!(rt; "{reply}")?;
     }
-    let reply = session.reply(rt, command)?;
-    println!(rt; "{reply}")?;
     Ok(())
 }
 
 // Every line of the input, to its end.
-pub fn follow<R: BufRead>(
+pub fn follow<F: Files, R: BufRead>(
     rt: &HostRuntime,
-    session: &mut Session,
+    session: &mut Session<F>,
     input: &mut R,
 ) -> anyhow::Result<()> {
     let heap = rt.alloc();
@@ -34,7 +29,7 @@ pub fn follow<R: BufRead>(
             break;
         }
         let line = String::from_utf8_lossy(heap, bytes.as_slice())?;
-        answer(rt, session, line.as_str(), false)?;
+        answer(rt, session, line.as_str())?;
     }
     Ok(())
 }

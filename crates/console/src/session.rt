@@ -1,38 +1,68 @@
 // The state between two commands, and the reply to each.
-use super::carried::carried;
 use super::commands::Command;
-use super::said::words;
+use super::replies::{Refused, Size};
 use chart::limits::MAX_LEGS;
 use chart::row::{Row, Standing};
 use reader::counts::Counts;
+use reader::fix_name::NoSuchFix;
 use reader::readers::Reader;
-use records::faults::{ChartFault, Layer};
+use records::faults::{ChartFault, Fault};
 use std::alloc::{AllocError, Global};
-use std::fs;
+use std::fmt;
 
-// Where the paths of charts lead.
-#[derive(Clone, Copy)]
-pub enum Charts {
-    // To the files that the program carries.
-    Carried,
-    // To the files below the working folder.
-    Folder,
+// Where the paths of chart files lead.
+pub trait Files {
+    // The bytes of the file at a path; none where it can't be read.
+    fn fetch(&self, rt: &HostRuntime, path: &str) -> Result<Option<Vec<u8>>, AllocError>;
+}
+
+// What is replied to a command.
+#[derive(Drop)]
+pub enum Reply<'a> {
+    Chart(Counts),
+    Fault(ChartFault),
+    Unreadable { path: &'a str },
+    Name { text: String, place: usize },
+    NoSuchFix(NoSuchFix),
+    OutOfTurn,
+    Malformed { command: &'static str },
+    Unknown,
+}
+
+impl fmt::Display for Reply<'_> {
+    fn fmt<W: fmt::Write>(&self, f: &mut fmt::Formatter<W>) -> fmt::Result {
+        match self {
+            Reply::Chart(counts) => {
+                let command = "chart";
+                let fixes = counts.fixes;
+                let legs = counts.legs;
+                Size { command, fixes, legs }.fmt(f)
+            }
+            Reply::Fault(fault) => {
+                let report = fault.report();
+                let number = report.number;
+                write!(f, "chart fault {number} {} {}: {fault}", report.layer, report.place)
+            }
+            Reply::Unreadable { path } => write!(f, "chart unreadable {path}"),
+            Reply::Name { text, place } => write!(f, "name {text} at {place}"),
+            Reply::NoSuchFix(refusal) => {
+                let command = "name";
+                let refusal = *refusal;
+                Refused { command, refusal }.fmt(f)
+            }
+            Reply::OutOfTurn => f.write_str("name out of turn"),
+            Reply::Malformed { command } => write!(f, "{command} malformed"),
+            Reply::Unknown => f.write_str("unknown command"),
+        }
+    }
 }
 
 #[derive(Drop)]
-pub struct Session {
+pub struct Session<F> {
     heap: Global,
-    charts: Charts,
+    files: F,
     // The bytes of the last chart file that was accepted.
     file: Option<Vec<u8>>,
-}
-
-fn layer_name(layer: Layer) -> &'static str {
-    match layer {
-        Layer::Bytes => "bytes",
-        Layer::Record => "record",
-        Layer::Chart => "chart",
-    }
 }
 
 pub fn blank_rows(heap: Global) -> Result<Vec<Row>, AllocError> {
@@ -47,93 +77,62 @@ pub fn blank_rows(heap: Global) -> Result<Vec<Row>, AllocError> {
     vec![in heap; blank; MAX_LEGS]
 }
 
-pub fn refusal_reply(heap: Global, command: &str, number: u8) -> Result<String, AllocError> {
-    let said = words(number);
-    format!(in heap; "{command} refused {number}: {said}")
-}
-
-fn fault_reply(heap: Global, fault: ChartFault) -> Result<String, AllocError> {
-    let report = fault.report();
-    let number = report.number;
-    let layer = layer_name(report.layer);
-    let place = report.place;
-    let said = words(number);
-    format!(in heap; "chart fault {number} {layer} {place}: {said}")
-}
-
-// What reading a file finds, with room for as many legs as a chart may have.
-fn read(heap: Global, file: &[u8]) -> Result<Result<Counts, ChartFault>, AllocError> {
+// A reader that has read the file, with room for as many legs as a chart may have, and what it found.
+fn read(heap: Global, file: &[u8]) -> Result<(Reader<'_>, Result<Counts, ChartFault>), AllocError> {
     let mut rows = blank_rows(heap)?;
     let mut reader = Reader::new(file);
-    Ok(reader.read_file(rows.as_mut_slice()))
+    let found = reader.read_file(rows.as_mut_slice());
+    Ok((reader, found))
 }
 
-// The name of a fix in an accepted file.
-fn name_in(heap: Global, file: &[u8], fix: u16) -> Result<String, AllocError> {
-    let mut rows = blank_rows(heap)?;
-    let mut reader = Reader::new(file);
-    let _counts = reader.read_file(rows.as_mut_slice());
-    match reader.name(fix) {
-        Ok(name) => {
-            let text = String::from_utf8_lossy(heap, name.text)?;
-            let place = name.place;
-            format!(in heap; "name {text} at {place}")
-        }
-        Err(refusal) => refusal_reply(heap, "name", refusal.number()),
-    }
-}
-
-impl Session {
-    pub fn new(heap: Global, charts: Charts) -> Session {
+impl<F: Files> Session<F> {
+    pub fn new(heap: Global, files: F) -> Session<F> {
         Session {
             heap,
-            charts,
+            files,
             file: None,
         }
     }
 
-    // The bytes of the file at a path, where it can be read.
-    fn fetch(&self, rt: &HostRuntime, path: &str) -> Result<Option<Vec<u8>>, AllocError> {
-        match self.charts {
-            Charts::Folder => Ok(fs::read(rt, path).ok()),
-            Charts::Carried => match carried(path) {
-                Some(bytes) => Ok(Some(Vec::from_slice(self.heap, bytes)?)),
-                None => Ok(None),
-            },
-        }
-    }
-
     // A refused file leaves the present chart what it was.
-    fn chart(&mut self, rt: &HostRuntime, path: &str) -> Result<String, AllocError> {
-        let heap = self.heap;
-        let Some(bytes) = self.fetch(rt, path)? else {
-            return format!(in heap; "chart unreadable {path}");
+    fn chart<'a>(&mut self, rt: &HostRuntime, path: &'a str) -> Result<Reply<'a>, AllocError> {
+        let Some(bytes) = self.files.fetch(rt, path)? else {
+            return Ok(Reply::Unreadable { path });
         };
-        match read(heap, bytes.as_slice())? {
+        let (_reader, found) = read(self.heap, bytes.as_slice())?;
+        match found {
             Ok(counts) => {
                 self.file = Some(bytes);
-                let n = counts.fixes;
-                let m = counts.legs;
-                format!(in heap; "chart {n} fixes {m} legs")
+                Ok(Reply::Chart(counts))
             }
-            Err(fault) => fault_reply(heap, fault),
+            Err(fault) => Ok(Reply::Fault(fault)),
         }
     }
 
-    fn name(&self, fix: u16) -> Result<String, AllocError> {
-        match &self.file {
-            Some(file) => name_in(self.heap, file.as_slice(), fix),
-            None => String::from_str(self.heap, "name out of turn"),
+    fn name<'a>(&self, fix: u16) -> Result<Reply<'a>, AllocError> {
+        let Some(file) = &self.file else {
+            return Ok(Reply::OutOfTurn);
+        };
+        let (reader, _found) = read(self.heap, file.as_slice())?;
+        match reader.name(fix) {
+            Ok(name) => Ok(Reply::Name {
+                text: String::from_utf8_lossy(self.heap, name.text)?,
+                place: name.place,
+            }),
+            Err(refusal) => Ok(Reply::NoSuchFix(refusal)),
         }
     }
 
-    pub fn reply(&mut self, rt: &HostRuntime, command: Command<'_>) -> Result<String, AllocError> {
-        let heap = self.heap;
+    pub fn reply<'a>(
+        &mut self,
+        rt: &HostRuntime,
+        command: Command<'a>,
+    ) -> Result<Reply<'a>, AllocError> {
         match command {
             Command::Chart { path } => self.chart(rt, path),
             Command::Name { fix } => self.name(fix),
-            Command::Malformed { command } => format!(in heap; "{command} malformed"),
-            Command::Unknown => String::from_str(heap, "unknown command"),
+            Command::Malformed { command } => Ok(Reply::Malformed { command }),
+            Command::Unknown => Ok(Reply::Unknown),
         }
     }
 }

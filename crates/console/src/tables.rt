@@ -1,34 +1,44 @@
 // The four-fix chart as a table, with legs closed too, and tables that are refused.
 use super::replies::{show_best, show_chart, show_refusal};
 use super::routes::{show_regrets, show_route};
+use chart::ends::Ends;
 use chart::row::{Row, Standing};
 use chart::table::Table;
-use std::io;
+use std::{io, mem};
 use worked::four_fix_rows;
 
-// Takes the rows as a chart of `n` fixes, and shows it or why it is refused.
+// Shows something of the table of a chart of `n` fixes with these rows, or why it is refused.
+pub fn show_on_table<F: FnOnce(&Table<'_>) -> io::Result<()>>(
+    rt: &HostRuntime,
+    rows: &[Row],
+    n: u16,
+    show: F,
+) -> io::Result<()>
+    requires { F.IsAlwaysCallable show }
+{
+    match Table::of(n, rows) {
+        Ok(table) => show(&table),
+        Err(refusal) => show_refusal(rt, "table", refusal),
+    }
+}
+
+// The size of the table, or why it is refused.
 fn show_table(rt: &HostRuntime, rows: &[Row], n: u16) -> io::Result<()> {
     println!(rt; "> table {n}")?;
-    let mut table = Table::new(rows);
-    match table.take_rows(n) {
-        Ok(()) => show_chart(rt, "table", &table),
-        Err(refusal) => show_refusal(rt, "table", refusal.number()),
-    }
+    show_on_table(rt, rows, n, |table| show_chart(rt, "table", table))
 }
 
 // The same rows with the times of the first leg exchanged.
 fn exchange_times(rows: &mut [Row]) {
-    if rows.len() > 0 {
-        let low = rows[0].low;
-        rows[0].low = rows[0].high;
-        rows[0].high = low;
+    if let Some(row) = rows.first_mut() {
+        mem::swap(&mut row.low, &mut row.high);
     }
 }
 
 fn close(rows: &mut [Row], legs: &[usize]) {
     for k in legs {
-        if *k < rows.len() {
-            rows[*k].standing = Standing::Closed;
+        if let Some(row) = rows.get_mut(*k) {
+            row.standing = Standing::Closed;
         }
     }
 }
@@ -37,31 +47,20 @@ fn close(rows: &mut [Row], legs: &[usize]) {
 fn show_closed(rt: &HostRuntime, legs: &[usize]) -> io::Result<()> {
     let mut rows = four_fix_rows();
     close(&mut rows, legs);
-    let mut table = Table::new(&rows);
-    match table.take_rows(4) {
-        Ok(()) => show_route(rt, &table),
-        Err(refusal) => show_refusal(rt, "table", refusal.number()),
-    }
+    show_on_table(rt, &rows, 4, |table| show_route(rt, table))
 }
 
-fn show_four_fixes(rt: &HostRuntime) -> io::Result<()> {
-    let rows = four_fix_rows();
-    let mut table = Table::new(&rows);
-    match table.take_rows(4) {
-        Ok(()) => {
-            show_best(rt, &table, 0, 3)?;
-            show_best(rt, &table, 3, 0)?;
-            show_regrets(rt, &table)?;
-            show_route(rt, &table)
-        }
-        Err(refusal) => show_refusal(rt, "table", refusal.number()),
-    }
+fn show_four_fixes(rt: &HostRuntime, table: &Table<'_>) -> io::Result<()> {
+    show_best(rt, table, Ends { from: 0, to: 3 })?;
+    show_best(rt, table, Ends { from: 3, to: 0 })?;
+    show_regrets(rt, table)?;
+    show_route(rt, table)
 }
 
 pub fn show_tables(rt: &HostRuntime) -> io::Result<()> {
     let rows = four_fix_rows();
     show_table(rt, &rows, 4)?;
-    show_four_fixes(rt)?;
+    show_on_table(rt, &rows, 4, |table| show_four_fixes(rt, table))?;
     show_changed_tables(rt)
 }
 

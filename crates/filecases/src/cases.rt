@@ -1,5 +1,6 @@
-// A case: a sound file, what is done to it and at which of its records, and the fault that it then owes.
+// A case: a sound file, what is done to it and at which of its records, and the verdict on it then.
 use super::files::File;
+use super::verdicts::Verdict;
 use std::alloc::AllocError;
 
 #[derive(Clone, Copy, Debug)]
@@ -44,8 +45,7 @@ pub enum Damage {
 
 #[derive(Clone, Copy, Debug)]
 pub struct Case {
-    // The number of the fault, or 0 where the file is accepted.
-    pub fault: usize,
+    pub verdict: Verdict,
     pub shape: Shape,
     pub spot: Spot,
     pub damage: Damage,
@@ -70,9 +70,9 @@ impl Case {
 
     // The place of the fault: too little memory is told at the chart's record, bytes after the end record after it.
     pub fn place(&self, file: &File) -> usize {
-        match self.fault {
-            9 => file.place(self.record().saturating_add(1)),
-            10 => 0,
+        match self.verdict {
+            Verdict::BytesAfter => file.place(self.record().saturating_add(1)),
+            Verdict::NoRoom => 0,
             _ => file.place(self.record()),
         }
     }
@@ -117,9 +117,7 @@ impl Case {
 }
 
 fn overwrite(bytes: &mut Vec<u8>, place: usize, by: &[u8]) {
-    for (i, byte) in by.iter().enumerate() {
-        if let Some(held) = bytes.get_mut(place.saturating_add(i)) {
-            *held = *byte;
-        }
+    for (held, byte) in bytes.iter_mut().skip(place).zip(by) {
+        *held = *byte;
     }
 }

@@ -1,10 +1,11 @@
 // One case: what the reader answers, beside what is expected.
 use super::cases::*;
 use super::files::*;
+use chart::refusals::Refusal;
 use chart::row::*;
 use chart::table::Table;
 use reader::readers::Reader;
-use records::faults::Layer;
+use records::faults::Fault;
 use std::alloc::{AllocError, Global};
 
 // What every place of leg memory holds before a file is read.
@@ -17,25 +18,14 @@ const MARK: Row = Row {
     standing: Standing::Closed,
 };
 
-fn is_same(a: &Row, b: &Row) -> bool {
-    a.from == b.from
-        && a.to == b.to
-        && a.low == b.low
-        && a.high == b.high
-        && a.top == b.top
-        && matches!(a.standing, Standing::Open) == matches!(b.standing, Standing::Open)
-}
-
 // Whether memory has these rows in its first places, and in all others what they held before.
 fn holds(memory: &[Row], rows: &[Row]) -> bool {
-    for (k, held) in memory.iter().enumerate() {
-        if !is_same(held, &rows.get(k).copied().unwrap_or(MARK)) {
-            return false;
-        }
-    }
-    rows.len() <= memory.len()
+    memory
+        .strip_prefix(rows)
+        .is_some_and(|beyond| beyond.iter().all(|row| *row == MARK))
 }
 
+// Whether the name is refused with its number.
 fn has_no_name(reader: &Reader<'_>, fix: u16) -> bool {
     match reader.name(fix) {
         Ok(_) => false,
@@ -43,20 +33,19 @@ fn has_no_name(reader: &Reader<'_>, fix: u16) -> bool {
     }
 }
 
-// Whether each of so many fixes has the signs of its record for a name, at their place, and the next number none.
-fn has_names(reader: &Reader<'_>, fixes: u16, file: &File) -> bool {
-    for fix in 0..fixes {
-        let start = file.place(fix as usize + 1).saturating_add(3);
-        let end = file.place(fix as usize + 2);
-        let is_there = match reader.name(fix) {
-            Ok(name) => name.place == start && file.bytes.get(start..end) == Some(name.text),
-            Err(_) => false,
-        };
-        if !is_there {
-            return false;
-        }
+// Whether the fix has the signs of its record for a name, at their place.
+fn has_name(reader: &Reader<'_>, fix: u16, file: &File) -> bool {
+    let start = file.place(fix as usize + 1).saturating_add(3);
+    let end = file.place(fix as usize + 2);
+    match reader.name(fix) {
+        Ok(name) => name.place == start && file.bytes.get(start..end) == Some(name.text),
+        Err(_) => false,
     }
-    has_no_name(reader, fixes)
+}
+
+// Whether each of so many fixes has its name, and the next number none.
+fn has_names(reader: &Reader<'_>, fixes: u16, file: &File) -> bool {
+    (0..fixes).all(|fix| has_name(reader, fix, file)) && has_no_name(reader, fixes)
 }
 
 // Whether a table takes the legs.
@@ -68,14 +57,6 @@ fn has_table(reader: &Reader<'_>, memory: &[Row], shape: Shape) -> bool {
     reader.take_legs(&mut table).is_ok() && table.fixes == shape.fixes && table.count == shape.legs
 }
 
-fn is_found_by(layer: Layer, fault: usize) -> bool {
-    match layer {
-        Layer::Bytes => matches!(fault, 1 | 2),
-        Layer::Record => matches!(fault, 4 | 5 | 8),
-        Layer::Chart => matches!(fault, 3 | 6 | 7 | 9 | 10),
-    }
-}
-
 // Whether the reader answers as the case expects, and leaves what it should.
 pub fn is_as_expected(heap: Global, case: &Case) -> Result<bool, AllocError> {
     let mut file = file_of(heap, case.shape)?;
@@ -83,25 +64,23 @@ pub fn is_as_expected(heap: Global, case: &Case) -> Result<bool, AllocError> {
     case.damage_file(&mut file)?;
     let mut memory = vec![in heap; MARK; case.room()]?;
     let mut reader = Reader::new(&file.bytes);
-    let is_well = match reader.read_file(memory.as_mut_slice()) {
-        Ok(counts) => {
-            case.fault == 0
-                && counts.fixes == case.shape.fixes
+    let answer = reader.read_file(memory.as_mut_slice());
+    let is_well = match (answer, case.verdict.report(place)) {
+        (Ok(counts), None) => {
+            counts.fixes == case.shape.fixes
                 && counts.legs == case.shape.legs
                 && reader.cursor.place == file.bytes.len()
                 && holds(&memory, &file.rows)
                 && has_names(&reader, counts.fixes, &file)
                 && has_table(&reader, &memory, case.shape)
         }
-        Err(fault) => {
-            let report = fault.report();
-            report.number as usize == case.fault
-                && is_found_by(report.layer, case.fault)
-                && report.place == place
+        (Err(fault), Some(report)) => {
+            fault.report() == report
                 && reader.cursor.place == place
                 && holds(&memory, &[])
                 && has_no_name(&reader, 0)
         }
+        _ => false,
     };
     Ok(is_well)
 }

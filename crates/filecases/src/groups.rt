@@ -3,10 +3,13 @@ use super::cases::Damage::*;
 use super::cases::Spot::*;
 use super::cases::*;
 use super::compare::is_as_expected;
+use super::verdicts::Verdict;
+use super::verdicts::Verdict::*;
+use std::alloc::{AllocError, Global};
 
-// The damage at every spot of every shape, after which the file owes this fault, or is accepted where it is 0.
+// The damage at every spot of every shape, and the verdict on the file after it.
 #[derive(Clone, Copy)]
-struct Group(usize, &'static [Shape], &'static [Spot], Damage);
+struct Group(Verdict, &'static [Shape], &'static [Spot], Damage);
 
 const LEAST: Shape = Shape { fixes: 2, legs: 0 };
 
@@ -37,105 +40,103 @@ const SHORT: Damage = Written(b"CH\x02\x00\x00FX\x02AAFX\x02BBE");
 
 const TWICE: Damage = Written(b"CH\x02\x00\x00FX\x02AAFX\x02AAEN");
 
-// What each fault says, by its number.
-pub static FAULTS: [&str; 11] = [
-    "accepted",
-    "fault 1, the file ends within a record",
-    "fault 2, an unknown mark",
-    "fault 3, a record out of place",
-    "fault 4, a count outside its limits",
-    "fault 5, a bad name",
-    "fault 6, a name already used",
-    "fault 7, bad fixes of a leg",
-    "fault 8, bad times or a bad level",
-    "fault 9, bytes after the end",
-    "fault 10, too few places of leg memory",
-];
-
 static GROUPS: [Group; 54] = [
-    Group(0, &ALL, &[Chart], Nothing),
-    Group(0, &ALL, &[Chart], ExactRoom),
-    Group(0, &[LEAST], &[Chart], WHOLE),
-    Group(0, &BOTH, &FIXES, At(3, b"Z9")),
-    Group(0, &BOTH, &FIXES, At(3, b"0A")),
-    Group(1, &ALL, &MARKED, Cut(0)),
-    Group(1, &ALL, &MARKED, Cut(1)),
-    Group(1, &BOTH, &BODIES, Cut(2)),
-    Group(1, &BOTH, &BODIES, Cut(4)),
-    Group(1, &BOTH, &LEGS, Cut(13)),
+    Group(Accepted, &ALL, &[Chart], Nothing),
+    Group(Accepted, &ALL, &[Chart], ExactRoom),
+    Group(Accepted, &[LEAST], &[Chart], WHOLE),
+    Group(Accepted, &BOTH, &FIXES, At(3, b"Z9")),
+    Group(Accepted, &BOTH, &FIXES, At(3, b"0A")),
+    Group(CutShort, &ALL, &MARKED, Cut(0)),
+    Group(CutShort, &ALL, &MARKED, Cut(1)),
+    Group(CutShort, &BOTH, &BODIES, Cut(2)),
+    Group(CutShort, &BOTH, &BODIES, Cut(4)),
+    Group(CutShort, &BOTH, &LEGS, Cut(13)),
     // Too few bytes follow: in the small file 121 are after the first length.
-    Group(1, &[SMALL], &FIXES, At(2, &[255])),
-    Group(1, &[SMALL], &[FirstFix], At(2, &[122])),
-    Group(1, &[LEAST], &[End], SHORT),
-    Group(2, &ALL, &MARKED, At(0, b"XX")),
-    Group(2, &ALL, &MARKED, At(0, b"CX")),
-    Group(2, &ALL, &MARKED, At(0, b"fx")),
-    Group(3, &BOTH, &[MiddleFix, MiddleLeg, End], At(0, b"CH")),
-    Group(3, &BOTH, &[Chart, MiddleLeg, End], At(0, b"FX")),
-    Group(3, &BOTH, &[Chart, MiddleFix, End], At(0, b"LG")),
-    Group(3, &BOTH, &BODIES, At(0, b"EN")),
-    Group(3, &[SMALL], &[LastFix], Counts(7, 5)),
-    Group(3, &[SMALL], &[FirstLeg], Counts(9, 5)),
-    Group(3, &[SMALL], &[LastLeg], Counts(8, 4)),
-    Group(3, &[SMALL], &[End], Counts(8, 6)),
-    Group(4, &BOTH, &[Chart], Counts(0, 5)),
-    Group(4, &BOTH, &[Chart], Counts(1, 5)),
-    Group(4, &BOTH, &[Chart], Counts(201, 5)),
-    Group(4, &BOTH, &[Chart], Counts(2, 1001)),
-    Group(5, &BOTH, &FIXES, At(2, &[1])),
-    Group(5, &BOTH, &FIXES, At(2, &[6])),
-    Group(5, &[SMALL], &[FirstFix], At(2, &[121])),
-    Group(5, &BOTH, &FIXES, At(3, b"a")),
-    Group(5, &BOTH, &FIXES, At(3, b"/")),
-    Group(5, &BOTH, &FIXES, LastSign(b':')),
-    Group(5, &BOTH, &FIXES, LastSign(b'@')),
-    Group(5, &BOTH, &FIXES, LastSign(b'[')),
+    Group(CutShort, &[SMALL], &FIXES, At(2, &[255])),
+    Group(CutShort, &[SMALL], &[FirstFix], At(2, &[122])),
+    Group(CutShort, &[LEAST], &[End], SHORT),
+    Group(UnknownMark, &ALL, &MARKED, At(0, b"XX")),
+    Group(UnknownMark, &ALL, &MARKED, At(0, b"CX")),
+    Group(UnknownMark, &ALL, &MARKED, At(0, b"fx")),
+    Group(
+        OutOfPlace,
+        &BOTH,
+        &[MiddleFix, MiddleLeg, End],
+        At(0, b"CH"),
+    ),
+    Group(OutOfPlace, &BOTH, &[Chart, MiddleLeg, End], At(0, b"FX")),
+    Group(OutOfPlace, &BOTH, &[Chart, MiddleFix, End], At(0, b"LG")),
+    Group(OutOfPlace, &BOTH, &BODIES, At(0, b"EN")),
+    Group(OutOfPlace, &[SMALL], &[LastFix], Counts(7, 5)),
+    Group(OutOfPlace, &[SMALL], &[FirstLeg], Counts(9, 5)),
+    Group(OutOfPlace, &[SMALL], &[LastLeg], Counts(8, 4)),
+    Group(OutOfPlace, &[SMALL], &[End], Counts(8, 6)),
+    Group(BadCounts, &BOTH, &[Chart], Counts(0, 5)),
+    Group(BadCounts, &BOTH, &[Chart], Counts(1, 5)),
+    Group(BadCounts, &BOTH, &[Chart], Counts(201, 5)),
+    Group(BadCounts, &BOTH, &[Chart], Counts(2, 1001)),
+    Group(BadName, &BOTH, &FIXES, At(2, &[1])),
+    Group(BadName, &BOTH, &FIXES, At(2, &[6])),
+    Group(BadName, &[SMALL], &[FirstFix], At(2, &[121])),
+    Group(BadName, &BOTH, &FIXES, At(3, b"a")),
+    Group(BadName, &BOTH, &FIXES, At(3, b"/")),
+    Group(BadName, &BOTH, &FIXES, LastSign(b':')),
+    Group(BadName, &BOTH, &FIXES, LastSign(b'@')),
+    Group(BadName, &BOTH, &FIXES, LastSign(b'[')),
     // The name of the fix before, and that of one of the first eight.
-    Group(6, &[LEAST], &[LastFix], At(4, b"0")),
-    Group(6, &BOTH, &[MiddleFix, LastFix], At(4, b"0")),
-    Group(6, &BOTH, &[MiddleFix, LastFix], At(3, b"A0")),
-    Group(6, &[LEAST], &[LastFix], TWICE),
-    Group(7, &BOTH, &LEGS, At(2, &[200])),
-    Group(7, &BOTH, &LEGS, At(3, &[200])),
-    Group(7, &[SMALL], &LEGS, At(2, &[8])),
-    Group(7, &[SMALL], &LEGS, At(3, &[8])),
-    Group(7, &BOTH, &LEGS, At(2, &[1, 1])),
-    Group(8, &BOTH, &LEGS, Times(1, 0)),
-    Group(8, &BOTH, &LEGS, Times(100_000, 99_999)),
-    Group(8, &BOTH, &LEGS, Times(0, 100_001)),
-    Group(8, &BOTH, &LEGS, Top(601)),
+    Group(NameUsed, &[LEAST], &[LastFix], At(4, b"0")),
+    Group(NameUsed, &BOTH, &[MiddleFix, LastFix], At(4, b"0")),
+    Group(NameUsed, &BOTH, &[MiddleFix, LastFix], At(3, b"A0")),
+    Group(NameUsed, &[LEAST], &[LastFix], TWICE),
+    Group(BadFixes, &BOTH, &LEGS, At(2, &[200])),
+    Group(BadFixes, &BOTH, &LEGS, At(3, &[200])),
+    Group(BadFixes, &[SMALL], &LEGS, At(2, &[8])),
+    Group(BadFixes, &[SMALL], &LEGS, At(3, &[8])),
+    Group(BadFixes, &BOTH, &LEGS, At(2, &[1, 1])),
+    Group(BadTimes, &BOTH, &LEGS, Times(1, 0)),
+    Group(BadTimes, &BOTH, &LEGS, Times(100_000, 99_999)),
+    Group(BadTimes, &BOTH, &LEGS, Times(0, 100_001)),
+    Group(BadTimes, &BOTH, &LEGS, Top(601)),
     // The fixes are bad too.
-    Group(8, &BOTH, &LEGS, At(2, &[255; 12])),
-    Group(9, &ALL, &[End], After(b"\x00")),
-    Group(9, &ALL, &[End], After(b"EN")),
-    Group(10, &BOTH, &[Chart], OneShort),
-    Group(10, &BOTH, &[FirstFix, MiddleLeg, End], OneShortAndCut),
+    Group(BadTimes, &BOTH, &LEGS, At(2, &[255; 12])),
+    Group(BytesAfter, &ALL, &[End], After(b"\x00")),
+    Group(BytesAfter, &ALL, &[End], After(b"EN")),
+    Group(NoRoom, &BOTH, &[Chart], OneShort),
+    Group(NoRoom, &BOTH, &[FirstFix, MiddleLeg, End], OneShortAndCut),
 ];
 
-// Runs the cases that owe a fault, names those that are not as expected, and answers how many there are.
-pub fn show(rt: &HostRuntime, fault: usize, said: &str) -> anyhow::Result<usize> {
+// The cases of a group.
+fn cases_of(group: &Group, heap: Global) -> Result<Vec<Case>, AllocError> {
+    let Group(verdict, shapes, spots, damage) = *group;
+    let mut cases = Vec::new(heap);
+    for shape in shapes {
+        for spot in spots {
+            cases.push(Case {
+                verdict,
+                shape: *shape,
+                spot: *spot,
+                damage,
+            })?;
+        }
+    }
+    Ok(cases)
+}
+
+// Runs the cases of a verdict, names those that are not as expected, and answers how many there are.
+pub fn show(rt: &HostRuntime, verdict: Verdict) -> anyhow::Result<usize> {
+    let heap = rt.alloc();
     let mut count = 0usize;
     let mut agree = 0usize;
-    for Group(number, shapes, spots, damage) in &GROUPS {
-        if *number == fault {
-            for shape in *shapes {
-                for spot in *spots {
-                    let case = Case {
-                        fault,
-                        shape: *shape,
-                        spot: *spot,
-                        damage: *damage,
-                    };
-                    count = count.saturating_add(1);
-                    if is_as_expected(rt.alloc(), &case)? {
-                        agree = agree.saturating_add(1);
-                    } else {
-                        println!(rt; "not as expected: {case:?}")?;
-                    }
-                }
+    for group in GROUPS.iter().filter(|group| group.0 == verdict) {
+        for case in &cases_of(group, heap)? {
+            count = count.saturating_add(1);
+            if is_as_expected(heap, case)? {
+                agree = agree.saturating_add(1);
+            } else {
+                println!(rt; "not as expected: {case:?}")?;
             }
         }
     }
-    println!(rt; "{said}: {agree} of {count} cases as expected")?;
+    println!(rt; "{verdict}: {agree} of {count} cases as expected")?;
     Ok(count)
 }

@@ -5,18 +5,16 @@ mod cases;
 mod compare;
 mod files;
 mod groups;
+mod verdicts;
 
-use groups::{FAULTS, show};
+use groups::show;
+use verdicts::VERDICTS;
 
-fn show_all(rt: &HostRuntime) -> anyhow::Result<()> {
+fn main(rt: HostRuntime) -> anyhow::Result<()> {
     let mut count = 0usize;
-    for (fault, said) in FAULTS.iter().enumerate() {
-        count = count.saturating_add(show(rt, fault, said)?);
+    for verdict in &VERDICTS {
+        count = count.saturating_add(show(&rt, *verdict)?);
     }
     println!(rt; "{count} cases")?;
     Ok(())
-}
-
-fn main(rt: HostRuntime) -> anyhow::Result<()> {
-    show_all(&rt)
 }

@@ -1,135 +1,212 @@
 // Small charts, each with something that a search can get wrong.
+use chart::ends::Ends;
 use chart::row::{Row, Standing};
+use std::alloc::{AllocError, Global};
 
-// A leg of a case: from, to, low, high, and whether it is open.
-pub type Plain = (u16, u16, u32, u32, bool);
+// An open leg of a case: from, to, low, high.
+pub type Plain = (u16, u16, u32, u32);
 
-// The most legs of a case.
-pub const MOST_LEGS: usize = 10;
+// A chart of `fixes` fixes with some of its legs closed, and the two fixes that routes are listed between.
+#[derive(Clone, Copy)]
+pub struct Case {
+    pub name: &'static str,
+    pub fixes: u16,
+    pub ends: Ends,
+    pub legs: &'static [Plain],
+    pub closed: &'static [usize],
+}
 
-pub static FOUR_FIXES: [Plain; 5] = [
-    (0, 1, 300, 400, true),
-    (1, 3, 300, 500, true),
-    (0, 2, 200, 600, true),
-    (2, 3, 250, 450, true),
-    (1, 2, 50, 100, true),
+static FOUR_FIXES: [Plain; 5] = [
+    (0, 1, 300, 400),
+    (1, 3, 300, 500),
+    (0, 2, 200, 600),
+    (2, 3, 250, 450),
+    (1, 2, 50, 100),
 ];
 
-pub static ONE_CLOSED: [Plain; 5] = [
-    (0, 1, 300, 400, true),
-    (1, 3, 300, 500, true),
-    (0, 2, 200, 600, true),
-    (2, 3, 250, 450, true),
-    (1, 2, 50, 100, false),
+static TWO_FIXES: [Plain; 1] = [(0, 1, 10, 20)];
+
+static PARALLEL: [Plain; 4] = [(0, 1, 10, 90), (0, 1, 40, 50), (1, 2, 5, 5), (1, 2, 0, 10)];
+
+static ALL_ZERO: [Plain; 4] = [(0, 1, 0, 0), (1, 2, 0, 0), (0, 2, 0, 0), (2, 1, 0, 0)];
+
+static TIES: [Plain; 6] = [
+    (0, 2, 10, 30),
+    (0, 1, 10, 30),
+    (1, 3, 10, 30),
+    (2, 3, 10, 30),
+    (1, 3, 10, 30),
+    (0, 3, 20, 60),
 ];
 
-pub static TWO_CLOSED: [Plain; 5] = [
-    (0, 1, 300, 400, true),
-    (1, 3, 300, 500, false),
-    (0, 2, 200, 600, true),
-    (2, 3, 250, 450, false),
-    (1, 2, 50, 100, true),
+static BACK_AND_FORTH: [Plain; 7] = [
+    (1, 0, 5, 9),
+    (3, 1, 5, 9),
+    (0, 1, 10, 80),
+    (1, 3, 20, 40),
+    (3, 2, 1, 1),
+    (0, 2, 30, 50),
+    (2, 3, 30, 35),
 ];
 
-pub static TWO_FIXES: [Plain; 1] = [(0, 1, 10, 20, true)];
-
-pub static PARALLEL: [Plain; 4] = [
-    (0, 1, 10, 90, true),
-    (0, 1, 40, 50, true),
-    (1, 2, 5, 5, true),
-    (1, 2, 0, 10, true),
+static DEAD_ENDS: [Plain; 6] = [
+    (0, 1, 1, 2),
+    (1, 2, 1, 2),
+    (0, 3, 50, 90),
+    (3, 4, 10, 60),
+    (0, 4, 70, 120),
+    (2, 1, 1, 1),
 ];
 
-pub static ALL_ZERO: [Plain; 4] = [
-    (0, 1, 0, 0, true),
-    (1, 2, 0, 0, true),
-    (0, 2, 0, 0, true),
-    (2, 1, 0, 0, true),
-];
+static UNREACHABLE: [Plain; 3] = [(0, 1, 1, 2), (2, 3, 1, 2), (1, 0, 1, 2)];
 
-pub static TIES: [Plain; 6] = [
-    (0, 2, 10, 30, true),
-    (0, 1, 10, 30, true),
-    (1, 3, 10, 30, true),
-    (2, 3, 10, 30, true),
-    (1, 3, 10, 30, true),
-    (0, 3, 20, 60, true),
-];
-
-pub static BACK_AND_FORTH: [Plain; 7] = [
-    (1, 0, 5, 9, true),
-    (3, 1, 5, 9, true),
-    (0, 1, 10, 80, true),
-    (1, 3, 20, 40, true),
-    (3, 2, 1, 1, true),
-    (0, 2, 30, 50, true),
-    (2, 3, 30, 35, true),
-];
-
-pub static DEAD_ENDS: [Plain; 6] = [
-    (0, 1, 1, 2, true),
-    (1, 2, 1, 2, true),
-    (0, 3, 50, 90, true),
-    (3, 4, 10, 60, true),
-    (0, 4, 70, 120, true),
-    (2, 1, 1, 1, true),
-];
-
-pub static UNREACHABLE: [Plain; 3] = [(0, 1, 1, 2, true), (2, 3, 1, 2, true), (1, 0, 1, 2, true)];
-
-pub static DENSE: [Plain; 10] = [
-    (0, 1, 10, 60, true),
-    (0, 2, 20, 40, true),
-    (1, 2, 5, 30, true),
-    (2, 1, 5, 10, true),
-    (1, 3, 30, 70, true),
-    (2, 3, 25, 90, true),
-    (1, 4, 60, 100, true),
-    (2, 4, 70, 80, true),
-    (3, 4, 10, 40, true),
-    (0, 4, 100, 130, true),
+static DENSE: [Plain; 10] = [
+    (0, 1, 10, 60),
+    (0, 2, 20, 40),
+    (1, 2, 5, 30),
+    (2, 1, 5, 10),
+    (1, 3, 30, 70),
+    (2, 3, 25, 90),
+    (1, 4, 60, 100),
+    (2, 4, 70, 80),
+    (3, 4, 10, 40),
+    (0, 4, 100, 130),
 ];
 
 // A later, longer list of less regret after an earlier one.
-pub static LATER_IS_BETTER: [Plain; 6] = [
-    (0, 3, 0, 100, true),
-    (0, 1, 10, 12, true),
-    (1, 2, 10, 12, true),
-    (2, 3, 10, 12, true),
-    (0, 2, 5, 70, true),
-    (1, 3, 5, 70, true),
+static LATER_IS_BETTER: [Plain; 6] = [
+    (0, 3, 0, 100),
+    (0, 1, 10, 12),
+    (1, 2, 10, 12),
+    (2, 3, 10, 12),
+    (0, 2, 5, 70),
+    (1, 3, 5, 70),
 ];
 
-// The row of a leg; past the last a closed one.
-fn row(legs: &[Plain], i: usize) -> Row {
-    match legs.get(i) {
-        Some((from, to, low, high, is_open)) => Row {
-            from: *from,
-            to: *to,
-            low: *low,
-            high: *high,
-            top: 300,
-            standing: if *is_open {
-                Standing::Open
-            } else {
-                Standing::Closed
-            },
-        },
-        None => Row {
-            from: 0,
-            to: 1,
-            low: 0,
-            high: 0,
-            top: 0,
-            standing: Standing::Closed,
-        },
-    }
+static CASES: [Case; 14] = [
+    Case {
+        name: "four fixes",
+        fixes: 4,
+        ends: Ends { from: 0, to: 3 },
+        legs: &FOUR_FIXES,
+        closed: &[],
+    },
+    Case {
+        name: "one leg closed",
+        fixes: 4,
+        ends: Ends { from: 0, to: 3 },
+        legs: &FOUR_FIXES,
+        closed: &[4],
+    },
+    Case {
+        name: "two legs closed",
+        fixes: 4,
+        ends: Ends { from: 0, to: 3 },
+        legs: &FOUR_FIXES,
+        closed: &[1, 3],
+    },
+    Case {
+        name: "two fixes",
+        fixes: 2,
+        ends: Ends { from: 0, to: 1 },
+        legs: &TWO_FIXES,
+        closed: &[],
+    },
+    Case {
+        name: "two fixes, back",
+        fixes: 2,
+        ends: Ends { from: 1, to: 0 },
+        legs: &TWO_FIXES,
+        closed: &[],
+    },
+    Case {
+        name: "parallel legs",
+        fixes: 3,
+        ends: Ends { from: 0, to: 2 },
+        legs: &PARALLEL,
+        closed: &[],
+    },
+    Case {
+        name: "zero times",
+        fixes: 3,
+        ends: Ends { from: 0, to: 2 },
+        legs: &ALL_ZERO,
+        closed: &[],
+    },
+    Case {
+        name: "ties",
+        fixes: 4,
+        ends: Ends { from: 0, to: 3 },
+        legs: &TIES,
+        closed: &[],
+    },
+    Case {
+        name: "into the departure, out of the destination",
+        fixes: 4,
+        ends: Ends { from: 0, to: 3 },
+        legs: &BACK_AND_FORTH,
+        closed: &[],
+    },
+    Case {
+        name: "dead ends",
+        fixes: 5,
+        ends: Ends { from: 0, to: 4 },
+        legs: &DEAD_ENDS,
+        closed: &[],
+    },
+    Case {
+        name: "unreachable",
+        fixes: 4,
+        ends: Ends { from: 0, to: 3 },
+        legs: &UNREACHABLE,
+        closed: &[],
+    },
+    Case {
+        name: "dense",
+        fixes: 5,
+        ends: Ends { from: 0, to: 4 },
+        legs: &DENSE,
+        closed: &[],
+    },
+    Case {
+        name: "dense, other ends",
+        fixes: 5,
+        ends: Ends { from: 1, to: 3 },
+        legs: &DENSE,
+        closed: &[],
+    },
+    Case {
+        name: "the later list is better",
+        fixes: 4,
+        ends: Ends { from: 0, to: 3 },
+        legs: &LATER_IS_BETTER,
+        closed: &[],
+    },
+];
+
+pub fn all_cases() -> &'static [Case] {
+    &CASES
 }
 
-pub fn rows(legs: &[Plain]) -> [Row; MOST_LEGS] {
-    let mut rows = [row(legs, 0); MOST_LEGS];
-    for i in 0..MOST_LEGS {
-        rows[i] = row(legs, i);
+impl Case {
+    // The rows of its legs.
+    pub fn rows(&self, heap: Global) -> Result<Vec<Row>, AllocError> {
+        let mut rows = Vec::new(heap);
+        for (k, (from, to, low, high)) in self.legs.iter().enumerate() {
+            let is_closed = self.closed.contains(&k);
+            rows.push(Row {
+                from: *from,
+                to: *to,
+                low: *low,
+                high: *high,
+                top: 300,
+                standing: if is_closed {
+                    Standing::Closed
+                } else {
+                    Standing::Open
+                },
+            })?;
+        }
+        Ok(rows)
     }
-    rows
 }

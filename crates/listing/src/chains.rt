@@ -5,95 +5,71 @@ use chart::row::Standing;
 use std::alloc::{AllocError, Global};
 
 // The most legs of a chain in the listing.
-pub const MOST: usize = 6;
+const MOST: usize = 6;
 
-// The most fixes that a chain in the listing meets.
-pub const MOST_FIXES: usize = 7;
-
-// A chain: its legs, and the fixes that it meets, one more than its legs.
-#[derive(Clone, Copy)]
+// A chain: its legs, the fixes that it meets but for the last, and the fix where it ends.
+#[derive(Drop)]
 pub struct Chain {
-    pub legs: [u16; MOST],
-    pub fixes: [u16; MOST_FIXES],
-    pub len: usize,
+    pub legs: Vec<u16>,
+    before: Vec<u16>,
+    pub end: u16,
 }
 
 impl Chain {
-    pub fn empty(from: u16) -> Chain {
+    fn empty(heap: Global, from: u16) -> Chain {
         Chain {
-            legs: [0; MOST],
-            fixes: [from; MOST_FIXES],
-            len: 0,
+            legs: Vec::new(heap),
+            before: Vec::new(heap),
+            end: from,
         }
     }
 
-    // The numbers of its legs.
-    pub fn list(&self) -> &[u16] {
-        let len = self.len.min(MOST);
-        match self.legs.get(0..len) {
-            Some(list) => list,
-            None => &[],
-        }
-    }
-
-    // The fix where the chain ends.
-    pub fn end(&self) -> u16 {
-        match self.fixes.get(self.len) {
-            Some(fix) => *fix,
-            None => 0,
-        }
+    // Whether it is a route to the fix.
+    pub fn is_route_to(&self, fix: u16) -> bool {
+        !self.legs.is_empty() && self.end == fix
     }
 
     fn meets(&self, fix: u16) -> bool {
-        for met in self.fixes.iter().take(self.len.saturating_add(1)) {
-            if *met == fix {
-                return true;
-            }
-        }
-        false
+        self.end == fix || self.before.contains(&fix)
     }
 
     // The chain with the leg `k` at its end; none where that is no chain.
-    fn longer<C: Chart>(&self, chart: &C, k: u16) -> Option<Chain> {
+    fn longer<C: Chart>(&self, chart: &C, k: u16) -> Result<Option<Chain>, AllocError> {
         let Some(leg) = chart.leg(k) else {
-            return None;
+            return Ok(None);
         };
-        if let Standing::Closed = leg.standing {
-            return None;
+        if leg.standing == Standing::Closed || leg.from != self.end || self.meets(leg.to) {
+            return Ok(None);
         }
-        if leg.from != self.end() || self.meets(leg.to) || self.len >= MOST {
-            return None;
-        }
-        let mut legs = self.legs;
-        let mut fixes = self.fixes;
-        legs[self.len] = k;
-        fixes[self.len + 1] = leg.to;
-        Some(Chain {
+        let mut legs = self.legs.clone()?;
+        let mut before = self.before.clone()?;
+        legs.push(k)?;
+        before.push(self.end)?;
+        Ok(Some(Chain {
             legs,
-            fixes,
-            len: self.len + 1,
-        })
+            before,
+            end: leg.to,
+        }))
     }
 }
 
-// Every chain that leaves the fix, the shorter ones first.
+// Every chain that leaves the fix and has so few legs as the listing has, the shorter ones first.
 pub fn all_chains<C: Chart>(heap: Global, chart: &C, from: u16) -> Result<Vec<Chain>, AllocError> {
     let mut chains = Vec::new(heap);
-    chains.push(Chain::empty(from))?;
-    let mut begin = 0;
+    let mut last = Vec::new(heap);
+    last.push(Chain::empty(heap, from))?;
     for _ in 0..MOST {
-        let end = chains.len();
-        for i in begin..end {
-            let Some(chain) = chains.get(i).copied() else {
-                continue;
-            };
+        let mut next = Vec::new(heap);
+        for chain in &last {
             for k in 0..chart.m() {
-                if let Some(longer) = chain.longer(chart, k) {
-                    chains.push(longer)?;
+                if let Some(longer) = chain.longer(chart, k)? {
+                    next.push(longer)?;
                 }
             }
         }
-        begin = end;
+        chains.append(&mut last)?;
+        last = next;
     }
+    chains.append(&mut last)?;
     Ok(chains)
 }

@@ -1,27 +1,54 @@
 // What is wrong with a file that is no chart's: a fault of its bytes, which travels whole inside a fault of a record,
 // and that inside a fault of the chart. Each holds its place: that of the record's mark, or of the first byte after the end record.
-ghost use Rattle.std.specs.Prelude.{◌≡◌};
+ghost use Rattle.std.specs.Prelude.{◌≡◌, Some};
+ghost use Rattle.records.specs.declared.faults.Report.{Report};
 ghost use Rattle.records.specs.declared.faults.RecordFault.TheVariants.{Bytes};
 ghost use Rattle.records.specs.declared.faults.ChartFault.TheVariants.{Record};
 ghost use Rattle.records.specs.Reports.{bytes_report, record_report, chart_report};
+ghost use Rattle.records.specs.Words.{layer_words, bytes_words, record_words, chart_words};
+
+use chart::refusals::{RowRefusal, TableRefusal};
+use std::error::Error;
+use std::fmt;
 
 // The layer that found a fault.
-#[derive(Clone, Copy)]
+#[derive(Clone, Copy, Debug, PartialEq, Eq)]
 pub enum Layer {
     Bytes,
     Record,
     Chart,
 }
 
+impl fmt::Display for Layer {
+    ghost output = { λ layer. Some (layer_words layer) };
+
+    fn fmt<W: fmt::Write>(&self, f: &mut fmt::Formatter<W>) -> fmt::Result {
+        f.write_str(match self {
+            Layer::Bytes => "bytes",
+            Layer::Record => "record",
+            Layer::Chart => "chart",
+        })
+    }
+}
+
 // What a fault tells: its number, its layer and its place in the file.
-#[derive(Clone, Copy)]
+#[derive(Clone, Copy, Debug, PartialEq, Eq)]
 pub struct Report {
     pub number: u8,
     pub layer: Layer,
     pub place: usize,
 }
 
-#[derive(Clone, Copy)]
+// A fault of any layer.
+pub trait Fault: Error {
+    ghost report_of: { Self → Report };
+
+    fn report(&self) -> Report
+        ensures { result ≡ report_of self.now };
+}
+
+// What is wrong with the bytes.
+#[derive(Clone, Copy, Debug, PartialEq, Eq)]
 pub enum BytesFault {
     // The file ends before the record is complete.
     Short { place: usize },
@@ -29,8 +56,10 @@ pub enum BytesFault {
     Unknown { place: usize },
 }
 
-#[derive(Clone, Copy)]
+// What is wrong with a record.
+#[derive(Clone, Copy, Debug, PartialEq, Eq)]
 pub enum RecordFault {
+    // Its bytes.
     Bytes(BytesFault),
     // The number of fixes or of legs is outside its limits.
     BadCounts { place: usize },
@@ -40,8 +69,10 @@ pub enum RecordFault {
     BadTimes { place: usize },
 }
 
-#[derive(Clone, Copy)]
+// What is wrong with the chart.
+#[derive(Clone, Copy, Debug, PartialEq, Eq)]
 pub enum ChartFault {
+    // A record.
     Record(RecordFault),
     // A known mark that is not the one due.
     OutOfPlace { place: usize },
@@ -55,10 +86,10 @@ pub enum ChartFault {
     NoRoom { place: usize },
 }
 
-impl BytesFault {
-    pub fn report(&self) -> Report
-        ensures { result ≡ bytes_report self.now }
-    {
+impl Fault for BytesFault {
+    ghost report_of = { bytes_report };
+
+    fn report(&self) -> Report {
         let (number, place) = match *self {
             BytesFault::Short { place } => (1, place),
             BytesFault::Unknown { place } => (2, place),
@@ -71,10 +102,23 @@ impl BytesFault {
     }
 }
 
-impl RecordFault {
-    pub fn report(&self) -> Report
-        ensures { result ≡ record_report self.now }
-    {
+impl fmt::Display for BytesFault {
+    ghost output = { λ fault. Some (bytes_words fault) };
+
+    fn fmt<W: fmt::Write>(&self, f: &mut fmt::Formatter<W>) -> fmt::Result {
+        f.write_str(match self {
+            BytesFault::Short { .. } => "the file ends before its end record is complete",
+            BytesFault::Unknown { .. } => "unknown mark",
+        })
+    }
+}
+
+impl Error for BytesFault {}
+
+impl Fault for RecordFault {
+    ghost report_of = { record_report };
+
+    fn report(&self) -> Report {
         let (number, place) = match *self {
             RecordFault::Bytes(fault) => return fault.report(),
             RecordFault::BadCounts { place } => (4, place),
@@ -89,10 +133,25 @@ impl RecordFault {
     }
 }
 
-impl ChartFault {
-    pub fn report(&self) -> Report
-        ensures { result ≡ chart_report self.now }
-    {
+impl fmt::Display for RecordFault {
+    ghost output = { λ fault. Some (record_words fault) };
+
+    fn fmt<W: fmt::Write>(&self, f: &mut fmt::Formatter<W>) -> fmt::Result {
+        match self {
+            RecordFault::Bytes(fault) => fault.fmt(f),
+            RecordFault::BadCounts { .. } => TableRefusal::BadCounts.fmt(f),
+            RecordFault::BadName { .. } => f.write_str("bad name"),
+            RecordFault::BadTimes { .. } => RowRefusal::BadTimes.fmt(f),
+        }
+    }
+}
+
+impl Error for RecordFault {}
+
+impl Fault for ChartFault {
+    ghost report_of = { chart_report };
+
+    fn report(&self) -> Report {
         let (number, place) = match *self {
             ChartFault::Record(fault) => return fault.report(),
             ChartFault::OutOfPlace { place } => (3, place),
@@ -108,6 +167,23 @@ impl ChartFault {
         }
     }
 }
+
+impl fmt::Display for ChartFault {
+    ghost output = { λ fault. Some (chart_words fault) };
+
+    fn fmt<W: fmt::Write>(&self, f: &mut fmt::Formatter<W>) -> fmt::Result {
+        match self {
+            ChartFault::Record(fault) => fault.fmt(f),
+            ChartFault::OutOfPlace { .. } => f.write_str("known mark out of its place"),
+            ChartFault::NameUsed { .. } => f.write_str("name already used"),
+            ChartFault::BadFixes { .. } => RowRefusal::BadFixes.fmt(f),
+            ChartFault::BytesAfter { .. } => f.write_str("bytes after the end record"),
+            ChartFault::NoRoom { .. } => f.write_str("fewer places of leg memory than legs"),
+        }
+    }
+}
+
+impl Error for ChartFault {}
 
 impl From<BytesFault> for RecordFault {
     ghost from_gives = { λ b r. r ≡ Bytes b };

@@ -1,5 +1,5 @@
 // The kinds of record that a chart file is made of.
-#[derive(Clone, Copy, PartialEq, Eq)]
+#[derive(Clone, Copy, Debug, PartialEq, Eq)]
 pub enum RecordKind {
     Chart,
     Fix,

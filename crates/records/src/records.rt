@@ -1,6 +1,5 @@
 // The bodies of records, each read into a record whose name, where it has one, is that part of the file itself.
 ghost use Rattle.std.specs.Prelude.{◌≡◌, ℕ, ◌+◌, ◌<◌, ◌≤◌, length, Decides, MatchResult};
-ghost use Rattle.chart.specs.Rows.{Counted};
 ghost use Rattle.records.specs.Format.{Sign, Named};
 ghost use Rattle.records.specs.Reports.{record_report, chart_report};
 ghost use Rattle.records.specs.Checks.{FirstFails, Pass, Marked, mark_checks, body, due_checks, chart_body, fix_body, leg_body, body_checks, fixes_in, legs_in, name_in, leg_in};
@@ -11,11 +10,11 @@ use super::faults::{ChartFault, RecordFault};
 use super::fields::{row_in, two_at};
 use super::kinds::RecordKind;
 use super::sizes::{CHART_BODY, LEG_BODY, MAX_NAME, MIN_NAME};
-use chart::limits::{MAX_FIXES, MAX_LEGS, MIN_FIXES};
+use chart::checks::are_counts;
 use chart::row::Row;
 
 // What the body of a record says.
-#[derive(Clone, Copy)]
+#[derive(Clone, Copy, Debug, PartialEq, Eq)]
 pub enum Record<'a> {
     Chart { fixes: u16, legs: u16 },
     Fix { name: &'a [u8] },
@@ -27,37 +26,14 @@ pub enum Record<'a> {
 fn is_sign(b: u8) -> bool
     ensures { Decides result (Sign b) }
 {
-    match b {
-        b'A'..=b'Z' => true,
-        b'0'..=b'9' => true,
-        _ => false,
-    }
+    b.is_ascii_uppercase() || b.is_ascii_digit()
 }
 
 // Whether a fix may have this name.
 fn is_name(name: &[u8]) -> bool
     ensures { Decides result (Named name.now) }
 {
-    if name.len() < MIN_NAME {
-        return false;
-    }
-    if name.len() > MAX_NAME {
-        return false;
-    }
-    for b in name {
-        if !is_sign(*b) {
-            return false;
-        }
-    }
-    true
-}
-
-// Whether a chart may have so many fixes and legs.
-fn is_counted(fixes: u16, legs: u16) -> bool
-    ensures { Decides result (Counted fixes legs) }
-{
-    let fixes = fixes as usize;
-    MIN_FIXES <= fixes && fixes <= MAX_FIXES && legs as usize <= MAX_LEGS
+    (MIN_NAME..=MAX_NAME).contains(&name.len()) && name.iter().all(|b| is_sign(*b))
 }
 
 // The numbers of fixes and of legs in a chart record's body.
@@ -69,7 +45,7 @@ fn chart_in<'a>(body: &'a [u8], at: usize) -> Result<Record<'a>, RecordFault>
     complete(body, at, CHART_BODY)?;
     let fixes = u16::from(body[0]);
     let legs = two_at(body, 1);
-    if !is_counted(fixes, legs) {
+    if !are_counts(fixes, legs as usize) {
         return Err(RecordFault::BadCounts { place: at });
     }
     Ok(Record::Chart { fixes, legs })
