@@ -1,5 +1,5 @@
 -- The search over all routes that begin with a chain.
-use Rattle.std.proofs.Common.{◌≡◌, ℕ, ◌+◌, ◌-◌, ◌<◌, ◌≤◌, true, false, List, [], ◌∷◌, ◌++◌, length, get_or, take, set, Some, None, Option, sym, refl, ap, ◌∙◌, subst, inl, inr, ⊎_elim, arith, length-set, length-append}
+use Rattle.std.proofs.Common.{◌≡◌, ℕ, ◌+◌, ◌-◌, ◌<◌, ◌≤◌, true, false, List, [], ◌∷◌, ◌++◌, length, get_or, take, set, Some, Option, sym, refl, ap, ◌∙◌, subst, inl, inr, ⊎_elim, arith, length-set, length-append}
 use Rattle.std.proofs.lemmas.List.{take_at, append_assoc, append-nil, set-set, set-get_or}
 use Rattle.std.proofs.lemmas.Bool.{cases_eq, cases_lt}
 use Rattle.arrayvec.specs.ArrayVec.{ArrayVec}
@@ -12,8 +12,10 @@ use Rattle.chart.specs.Floors.{Begins}
 use Rattle.chart.proofs.Chains.{leads_end}
 use Rattle.chart.proofs.Short.{chain_short}
 use Rattle.chart.proofs.Within.{route_goes_away}
-use Rattle.search.specs.Snapshots.{legs_of, FirstLeg, NextLeg}
+use Rattle.search.specs.Index.{leaving}
+use Rattle.search.specs.Snapshots.{legs_of}
 use Rattle.search.specs.Sound.{snapshot_charted}
+use Rattle.search.proofs.Leaving.{leaving_ends, leaving_goes_on}
 use Rattle.regret.specs.Walks.{Walk, Steps, StepsAlong}
 use Rattle.regret.proofs.Walks.{walk_push, chain_steps}
 use Rattle.regret.proofs.Losing.{step_known}
@@ -27,20 +29,12 @@ chain_back : (legs : List Leg) (ks ms : List ℕ) (s z t : ℕ) → Leads legs s
 chain_back legs [] ms s z t e c = subst (λ y. Chain legs y ms t) e c
 chain_back legs (k ∷ ks) ms s z t l c = chain_back legs ks ms (at legs k).to z t l.1 (record { leads = c.leads.1; once = c.once.1 })
 
--- the number of the next leg; where there is none, that past all legs
-abbrev pub turn_of : List Leg → Option ℕ → ℕ
-turn_of legs None = length legs
-turn_of legs (Some k) = k
-
--- the next leg, where there is one, leaves the fix `here`
-abbrev pub LeavesHere : List Leg → ℕ → Option ℕ → Type 0
-LeavesHere legs here None = Unit {0}
-LeavesHere legs here (Some k) = (k < length legs) × ((at legs k).from ≡ here)
-
--- what the turns of a search keep, from s to s': it has swept the routes that go on below the next leg, and stands where it stood
-pub record Turns (s : Sweep) (here : ℕ) (s' : Sweep) (next : Option ℕ) : Type 0 where
-  pub swept : Swept (trip_of s) s.best s'.best (GoesBelow s.chain.items (turn_of (trip_of s).legs next))
-  pub leaves : LeavesHere (trip_of s).legs here next
+-- what the turns of a search keep, from s to s', where it has come to the legs from the number `low` on: it has swept the routes
+-- that go on below `low`, the legs left are the others that leave the fix, and it stands where it stood
+pub record Turns (s : Sweep) (here : ℕ) (s' : Sweep) (left : List ℕ) : Type 0 where
+  pub low : ℕ
+  pub others : left ≡ leaving (trip_of s).legs here low
+  pub swept : Swept (trip_of s) s.best s'.best (GoesBelow s.chain.items low)
   pub stands : s' ≡ record s { best = s'.best }
 
 module _ {s : Sweep} {here : ℕ} (ready : Ready s here) where
@@ -127,36 +121,27 @@ module _ {s : Sweep} {here : ℕ} (ready : Ready s here) where
       (λ ge. let st = steps_on k g.2.0 q flies g.2.1 in absurd (none k ge lt st.leaves.there st.leaves.from))
       (cases_lt k low))
 
-  -- the search goes to the next leg of the fix
-  swept_next : {best : Option Best} (low : ℕ) (next : Option ℕ) → FirstLeg t.legs here low next → Swept t s.best best (GoesBelow ks low) → Swept t s.best best (GoesBelow ks (turn_of t.legs next)) × LeavesHere t.legs here next
-  swept_next low None first w = (swept_past low (length t.legs) (λ k ge lt there from. first k ge there from) w, tt)
-  swept_next low (Some j) first w = (swept_past low j first.1.gap w, (first.0, first.1.leaves first.0))
+  pub turns_start : (left : List ℕ) → left ≡ leaving (legs_of s.snapshot.now) here 0 → Turns s here s left
+  turns_start left is = record { low = 0; others = is; swept = swept_none ready.sound (λ q flies g. let lt = g.1 in absurd (omega arith)); stands = refl }
 
-  pub turns_start : (next : Option ℕ) → FirstLeg (legs_of s.snapshot.now) here 0 next → Turns s here s next
-  turns_start next first =
-      let w = swept_next 0 next first (swept_none ready.sound (λ q flies g. let lt = g.1 in absurd (omega arith))) in
-      record { swept = w.0; leaves = w.1; stands = refl }
-
-  module _ {s₁ : Sweep} {next : Option ℕ} (turns : Turns s here s₁ next) where
+  module _ {s₁ : Sweep} {left : List ℕ} (turns : Turns s here s₁ left) where
     -- it may go on from where it stands
     pub ready_again : Ready s₁ here
     ready_again = subst (λ (x : Sweep). Ready x here) (sym turns.stands) (record { leaves = ready.leaves; useds = ready.useds; walk = ready.walk; sound = turns.swept.sound })
 
-    pub turns_again : (k : ℕ) → next ≡ Some k → (s₂ : Sweep) → Swept (trip_of s₁) s₁.best s₂.best (GoesOn s₁.chain.items k) → s₂ ≡ record s₁ { best = s₂.best } → (next' : Option ℕ) → NextLeg (legs_of s₂.snapshot.now) k next' → Turns s here s₂ next'
-    turns_again k is s₂ turn stands next' after =
-        let all : s₂ ≡ record s { best = s₂.best } = stands ∙ ap (λ (x : Sweep). record x { best = s₂.best }) turns.stands in
-        let here_leg : LeavesHere t.legs here (Some k) = subst (λ n. LeavesHere t.legs here n) is turns.leaves in
-        let after' : NextLeg t.legs k next' = subst (λ (x : Sweep). NextLeg (legs_of x.snapshot.now) k next') all after in
+    pub turns_again : (k : ℕ) (rest : List ℕ) → left ≡ k ∷ rest → (s₂ : Sweep) → Swept (trip_of s₁) s₁.best s₂.best (GoesOn s₁.chain.items k) → s₂ ≡ record s₁ { best = s₂.best } → Turns s here s₂ rest
+    turns_again k rest is s₂ turn stands =
+        let next = leaving_goes_on t.legs here turns.low k rest (sym turns.others ∙ is) in
         let turn' : Swept t s₁.best s₂.best (GoesOn ks k) = subst (λ (x : Sweep). Swept (trip_of x) s₁.best s₂.best (GoesOn x.chain.items k)) turns.stands turn in
-        let first = subst (λ v. FirstLeg t.legs v (k + 1) next') here_leg.1 (after'.after here_leg.0) in
-        let both = swept_both turns.swept turn' (λ q flies g.
+        let both = swept_both (swept_past turns.low k (λ j a b there from. next.0.gap j a b from) turns.swept) turn' (λ q flies g.
         let lt = g.1 in
         ⊎_elim
         (λ e. inr (subst (λ j. GoesOn ks j q) e g.2))
-        (λ ne. inl (g.0, subst (λ n. g.0 < turn_of t.legs n) (sym is) (omega arith), g.2))
+        (λ ne. inl (g.0, omega arith, g.2))
         (cases_eq g.0 k)) in
-        let w = swept_next (k + 1) next' first both in
-        record { swept = w.0; leaves = w.1; stands = all }
+        record { low = k + 1; others = next.1; swept = both; stands = stands ∙ ap (λ (x : Sweep). record x { best = s₂.best }) turns.stands }
 
-    pub turns_end : (here ≡ s.ends.to → ⊥) → next ≡ None → Swept (trip_of s) s.best s₁.best (Begins s.chain.items)
-    turns_end ne is = swept_of turns.swept (λ q flies b. subst (λ n. GoesBelow ks (turn_of t.legs n) q) (sym is) (goes_on ne q flies b.0 b.1))
+    pub turns_end : (here ≡ s.ends.to → ⊥) → left ≡ [] → Swept (trip_of s) s.best s₁.best (Begins s.chain.items)
+    turns_end ne is =
+        let none = leaving_ends t.legs here turns.low (sym turns.others ∙ is) in
+        swept_of (swept_past turns.low (length t.legs) (λ k ge lt there from. none k ge there from) turns.swept) (λ q flies b. goes_on ne q flies b.0 b.1)

@@ -21,10 +21,8 @@ impl<'a> Sweep<'a> {
         if self.is_hopeless() {
             return;
         }
-        let mut next = self.snapshot.first_leg(here);
-        while let Some(k) = next {
+        for k in self.snapshot.legs_from(here) {
             self.explore_leg(here, k);
-            next = self.snapshot.next_leg(k);
         }
     }
 

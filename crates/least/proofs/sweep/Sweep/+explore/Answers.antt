@@ -6,15 +6,14 @@ use Rattle.least.proofs.sweep.Sweep.+explore.Goals as goal
 pub explore-returns-then-here-self-clause-swept : goal.explore-returns-then-here-self-clause-swept
 explore-returns-then-here-self-clause-swept t c = swept_of c.weigh.ensures.swept (only_itself c.requires c.if-here-self.true)
 
-pub explore-loop-next-init : goal.explore-loop-next-init
-explore-loop-next-init t c = turns_start c.requires c.first_leg-next.result c.first_leg-next.ensures
+pub explore-loop-k-init : goal.explore-loop-k-init
+explore-loop-k-init t c = turns_start c.requires _ (search rules)
 
-pub explore-loop-next-preserved : goal.explore-loop-next-preserved
-explore-loop-next-preserved t c =
-    turns_again c.requires c.loop-next.invariant c.in-Some.k c.in-Some.is c.explore_leg.new.self c.explore_leg.ensures.swept c.explore_leg.ensures.stands c.next_leg-next.result c.next_leg-next.ensures
+pub explore-loop-k-preserved : goal.explore-loop-k-preserved
+explore-loop-k-preserved t c = turns_again c.requires c.loop-k.invariant c.in-Some.k _ c.in-Some.ensures.steps c.explore_leg.new.self c.explore_leg.ensures.swept c.explore_leg.ensures.stands
 
 pub explore-returns-clause-swept : goal.explore-returns-clause-swept
-explore-returns-clause-swept t c = turns_end c.requires c.loop-next.invariant c.if-here-self.false c.in_default.is
+explore-returns-clause-swept t c = turns_end c.requires c.loop-k.invariant c.if-here-self.false c.in-None.ensures.steps.0
 
 pub explore_leg-returns-in_default-clause-swept : goal.explore_leg-returns-in_default-clause-swept
 explore_leg-returns-in_default-clause-swept t c = stuck c.requires c.args.k c.in_default.ensures
