@@ -1,5 +1,5 @@
 -- Where the reader stands between two records: one name or one leg more, or the fault that is owed there.
-use Rattle.std.proofs.Common.{◌≡◌, ℕ, zero, suc, ◌+◌, ◌*◌, ◌<◌, ◌≤◌, List, [], ◌∷◌, ◌++◌, length, get_or, take, drop, sym, refl, ap, ◌∙◌, subst, subst₂, inl, inr, ⊎_elim, add-one, arith, length-append, length-drop}
+use Rattle.std.proofs.Common.{◌≡◌, ℕ, zero, suc, ◌+◌, ◌*◌, ◌<◌, ◌≤◌, List, [], ◌∷◌, ◌++◌, length, take, drop, sym, refl, ap, ◌∙◌, subst, subst₂, inl, inr, ⊎_elim, add-one, arith, length-append, length-drop}
 use Rattle.std.specs.List.{flat_map}
 use Rattle.std.proofs.lemmas.List.{drop-drop, length_push, get_or_push, get_or_append_left, take_at, take-append-le, get_or-drop, append-nil, nil_from_length}
 use Rattle.std.proofs.lemmas.Bool.{cases_eq}
@@ -12,7 +12,7 @@ use Rattle.records.specs.Format.{Name, chart_bytes, fix_bytes, end_bytes, openin
 use Rattle.records.specs.Reports.{chart_report}
 use Rattle.records.specs.Checks.{Pass, byte, AllBytes, body, name_in, leg_in, fixes_in, legs_in, chart_checks, fix_checks, leg_checks, end_checks}
 use Rattle.records.specs.Faults.{Begins, Owes, at_chart, at_fix, at_leg, at_end, after_end, Finds, Owed}
-use Rattle.reader.specs.Places.{Refuses, FixAt, Stand, Indexed, names_at, legs_at, Naming, Legging, Stops}
+use Rattle.reader.specs.Places.{Refuses, FixAt, Indexed, names_at, legs_at, Naming, Legging, Stops}
 use Rattle.reader.proofs.NamesAt.{names_push, names_length}
 use Rattle.reader.proofs.Openings.{begins_chart, begins_fix, begins_leg, end_split, push_all}
 

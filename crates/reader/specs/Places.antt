@@ -59,6 +59,10 @@ pub record Stops (file : List ℕ) (m : ℕ) (e : ChartFault) (place : ℕ) : Ty
   pub owed : (room : ℕ) → m ≤ room → Owed file room (chart_report e)
   pub there : place ≡ (chart_report e).place
 
+-- whatever names stand before the place base, where the legs begin, the fault e is owed
+abbrev pub StopsAlong : (file : List ℕ) (n m base : ℕ) → ChartFault → ℕ → Type 0
+StopsAlong file n m base e place = (names : List Name) → Legging file base n m names base 0 → Stops file m e place
+
 -- from the place base on, where the legs begin, the cursor has come to p, after k of them, whatever names stand before
 pub record Along (file : List ℕ) (p n m base k : ℕ) : Type 0 where
   pub inside : p ≤ length file

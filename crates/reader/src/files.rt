@@ -1,11 +1,9 @@
 // A whole file: all its records in their order, and then its legs into memory.
-ghost use Rattle.std.specs.Prelude.{◌≡◌, ℕ, ◌+◌, ◌*◌, ◌<◌, ◌≤◌, List, [], length, drop, MatchResult, slice_set};
-ghost use Rattle.chart.specs.Limits.{max_fixes};
-ghost use Rattle.records.specs.Format.{Name};
+ghost use Rattle.std.specs.Prelude.{◌≡◌, ℕ, ◌+◌, ◌*◌, ◌<◌, ◌≤◌, List, [], length, drop, MatchResult};
 ghost use Rattle.records.specs.Reports.{chart_report};
 ghost use Rattle.records.specs.Checks.{body, legs_in, leg_in};
 ghost use Rattle.records.specs.Faults.{Owed};
-ghost use Rattle.reader.specs.Places.{Naming, Legging, Along, Ended, Stops, Filled, Checked};
+ghost use Rattle.reader.specs.Places.{Naming, Along, Ended, Stops, StopsAlong, Filled, Checked};
 
 use super::counts::Counts;
 use super::cursor::Cursor;
@@ -50,7 +48,7 @@ impl Cursor<'_> {
         ensures same_file { self.new.file ≡ self.old.file }
         ensures reads { MatchResult result
             (λ _. Along self.old.file.now self.new.place counts.fixes counts.legs self.old.place counts.legs)
-            (λ e. (names : List Name) → Legging self.old.file.now self.old.place counts.fixes counts.legs names self.old.place 0 → Stops self.old.file.now counts.legs e self.new.place) }
+            (λ e. StopsAlong self.old.file.now counts.fixes counts.legs self.old.place e self.new.place) }
     {
         for _ in 0..counts.legs {
             self.read_leg(counts.fixes)?;
@@ -64,7 +62,7 @@ impl Cursor<'_> {
         ensures same_file { self.new.file ≡ self.old.file }
         ensures reads { MatchResult result
             (λ _. Ended self.old.file.now counts.fixes counts.legs self.old.place self.new.place)
-            (λ e. (names : List Name) → Legging self.old.file.now self.old.place counts.fixes counts.legs names self.old.place 0 → Stops self.old.file.now counts.legs e self.new.place) }
+            (λ e. StopsAlong self.old.file.now counts.fixes counts.legs self.old.place e self.new.place) }
     {
         self.read_legs(counts)?;
         self.read_end()?;
@@ -95,15 +93,12 @@ impl Cursor<'_> {
     }
 }
 
-// Puts the leg whose record stands at a place into the row of its number.
-fn fill_one(file: &[u8], at: usize, k: usize, memory: &mut [Row])
-    requires { (at + 14 ≤ length file.now) × (k < length memory.old) }
-    ensures { memory.new ≡ slice_set memory.old k (leg_in (body (drop at file.now))) }
+// The leg whose record stands at a place.
+fn leg_at(file: &[u8], at: usize) -> Row
+    requires { at + 14 ≤ length file.now }
+    ensures { result ≡ leg_in (body (drop at file.now)) }
 {
-    let rest = onward(file, at);
-    if let Some(row) = leg_row(onward(rest, MARK_BYTES)) {
-        memory[k] = row;
-    }
+    leg_row(onward(onward(file, at), MARK_BYTES)).unwrap()
 }
 
 // Puts the legs whose records stand in the file from a place on into the first rows.
@@ -111,7 +106,8 @@ pub(crate) fn fill(file: &[u8], base: usize, legs: u16, memory: &mut [Row])
     requires { (base + 14 * legs ≤ length file.now) × (legs ≤ length memory.old) }
     ensures { Filled file.now base legs memory.old memory.new }
 {
-    for k in 0..legs as usize {
-        fill_one(file, base + (MARK_BYTES + LEG_BODY) * k, k, memory);
+    let rows = &mut memory[..legs as usize];
+    for (k, row) in rows.iter_mut().enumerate() {
+        *row = leg_at(file, base + (MARK_BYTES + LEG_BODY) * k);
     }
 }

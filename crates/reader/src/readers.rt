@@ -9,7 +9,7 @@ use arrayvec::ArrayVec;
 use chart::limits::MAX_FIXES;
 
 // The place that reading has come to in the file, and the places of the records of its names once it is accepted.
-#[derive(Drop)]
+#[derive(Debug, Drop)]
 pub struct Reader<'a> {
     pub cursor: Cursor<'a>,
     pub starts: ArrayVec<usize, MAX_FIXES>,

@@ -29,7 +29,7 @@ impl Cursor<'_> {
         let mut guard = Guard::new(&mut self.place);
         let body = rest.due(RecordKind::Chart)?;
         let Record::Chart { fixes, legs } = body.record(RecordKind::Chart)? else {
-            return Err(ChartFault::OutOfPlace { place: rest.place });
+            unreachable!();
         };
         if legs as usize > room {
             return Err(ChartFault::NoRoom { place: rest.place });
@@ -52,7 +52,7 @@ impl Cursor<'_> {
         let mut guard = Guard::new(&mut self.place);
         let body = rest.due(RecordKind::Fix)?;
         let Record::Fix { name } = body.record(RecordKind::Fix)? else {
-            return Err(ChartFault::OutOfPlace { place: rest.place });
+            unreachable!();
         };
         if !is_fresh(file, starts, name) {
             return Err(ChartFault::NameUsed { place: rest.place });
@@ -74,7 +74,7 @@ impl Cursor<'_> {
         let mut guard = Guard::new(&mut self.place);
         let body = rest.due(RecordKind::Leg)?;
         let Record::Leg { row } = body.record(RecordKind::Leg)? else {
-            return Err(ChartFault::OutOfPlace { place: rest.place });
+            unreachable!();
         };
         if !row.is_placed(n) {
             return Err(ChartFault::BadFixes { place: rest.place });

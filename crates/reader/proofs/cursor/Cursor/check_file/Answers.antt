@@ -1,7 +1,7 @@
-use Rattle.std.proofs.Common.{◌≤◌, sym, refl, ◌∙◌, subst, arith}
+use Rattle.std.proofs.Common.{◌≤◌, sym, refl, subst}
 use Rattle.records.specs.Checks.{body, legs_in}
 use Rattle.reader.proofs.Carrying.{carried}
-use Rattle.reader.proofs.Stages.{owes_chart, naming_none, legging_first}
+use Rattle.reader.proofs.Stages.{naming_none, legging_first}
 use Rattle.reader.proofs.cursor.Cursor.check_file.Goals as goal
 
 pub read_fixes-requires : goal.read_fixes-requires

@@ -1,4 +1,4 @@
-use Rattle.std.proofs.Common.{ap, ◌∙◌, arith, length-append}
+use Rattle.std.proofs.Common.{◌∙◌, arith}
 use Rattle.records.specs.Checks.{body, legs_in}
 use Rattle.reader.proofs.Carrying.{carried}
 use Rattle.reader.proofs.Stages.{naming_more, stops_at_fix}
