@@ -1,12 +1,13 @@
--- One leg more put into memory.
-use Rattle.std.proofs.Common.{◌≡◌, ℕ, ◌+◌, ◌*◌, ◌<◌, List, [], ◌∷◌, ◌++◌, length, drop, set, sym, ap, ◌∙◌, append_assoc}
-use Rattle.std.proofs.lemmas.List.{set_at, drop_more}
+-- The legs put into memory, one by one.
+use Rattle.std.proofs.Common.{◌≡◌, ℕ, ◌+◌, ◌*◌, ◌<◌, ◌≤◌, List, [], ◌∷◌, ◌++◌, length, drop, set, sym, ap, ◌∙◌, append_assoc}
+use Rattle.std.proofs.lemmas.List.{set_at, drop_more, drop_all, append-nil}
 use Rattle.chart.specs.declared.row.Row.{Row}
 use Rattle.chart.specs.Rows.{no_row, row_at}
 use Rattle.records.specs.Checks.{body, leg_in}
 use Rattle.reader.specs.Places.{legs_at, Filled}
 use Rattle.reader.proofs.Stages.{legs_length, legs_more}
 
+-- one leg more
 pub filled_more : (file : List ℕ) (p k : ℕ) (was old new : List Row) → Filled file p k was old → k < length was → new ≡ set old k (leg_in (body (drop (p + 14 * k) file))) → Filled file p (k + 1) was new
 filled_more file p k was old new f lt e =
     let leg = leg_in (body (drop (p + 14 * k) file)) in
@@ -16,3 +17,7 @@ filled_more file p k was old new f lt e =
     ∙ set_at legs (row_at was k) (drop (k + 1) was) leg k (legs_length file p k)
     ∙ sym (append_assoc legs (leg ∷ []) (drop (k + 1) was))
     ∙ ap (λ rows. rows ++ drop (k + 1) was) (sym (legs_more file p k))
+
+-- and all of them
+pub filled_all : (file : List ℕ) (p k : ℕ) (was is : List Row) → Filled file p k was is → length was ≤ k → is ≡ legs_at file p k
+filled_all file p k was is f h = f ∙ ap (λ rows. legs_at file p k ++ rows) (drop_all k was h) ∙ append-nil (legs_at file p k)

@@ -1,3 +1,4 @@
+mod Carrying
 mod NamesAt
 mod Openings
 mod Stages

@@ -7,7 +7,7 @@ use Rattle.chart.specs.declared.row.Row.{Row}
 use Rattle.chart.specs.declared.row.Standing.TheVariants.{Open}
 use Rattle.chart.specs.Rows.{Sound, no_row}
 use Rattle.records.specs.Format.{Name, chart_bytes, fix_bytes, leg_bytes, end_bytes, opening, Named, Fresh, Lawful}
-use Rattle.records.specs.Checks.{Pass, byte, body, name_in, leg_in, fixes_in, legs_in, chart_checks, fix_checks, leg_checks, end_checks}
+use Rattle.records.specs.Checks.{Pass, byte, AllBytes, body, name_in, leg_in, fixes_in, legs_in, chart_checks, fix_checks, leg_checks, end_checks}
 use Rattle.records.specs.Faults.{Begins}
 use Rattle.records.proofs.Backs.{leg_split, two_split}
 
@@ -42,7 +42,7 @@ name_length : (b : List ℕ) → 1 + byte b 0 ≤ length b → length (name_in b
 name_length b h = length-take-le (byte b 0) (drop 1 b) (let e = length-drop 1 b in omega arith)
 
 -- what holds of all items of a list, and of one more
-push_all : {A : Type 0} (P : A → Type 0) (d : A) (xs : List A) (x : A) → ((k : ℕ) → k < length xs → P (get_or xs k d)) → P x → (k : ℕ) → k < length (xs ++ x ∷ []) → P (get_or (xs ++ x ∷ []) k d)
+pub push_all : {A : Type 0} (P : A → Type 0) (d : A) (xs : List A) (x : A) → ((k : ℕ) → k < length xs → P (get_or xs k d)) → P x → (k : ℕ) → k < length (xs ++ x ∷ []) → P (get_or (xs ++ x ∷ []) k d)
 push_all P d xs x old new k h =
     let long = length_push xs x in
     ⊎_elim
@@ -102,7 +102,7 @@ begins_fix file p n m names b room pass =
           ∙ ap (λ x. opening n m (names ++ name ∷ []) [] ++ x) (drop-drop size p file);
     }
 
-pub begins_leg : (file : List ℕ) (p n m : ℕ) (names : List Name) (legs : List Row) → ((i : ℕ) → byte (drop p file) i < 256) → Begins file p n m names legs (drop p file) → length legs < m → Pass (leg_checks n (drop p file)) →
+pub begins_leg : (file : List ℕ) (p n m : ℕ) (names : List Name) (legs : List Row) → AllBytes (drop p file) → Begins file p n m names legs (drop p file) → length legs < m → Pass (leg_checks n (drop p file)) →
     Begins file (p + 14) n m names (legs ++ leg_in (body (drop p file)) ∷ []) (drop (p + 14) file)
 begins_leg file p n m names legs small b room pass =
     let leg = leg_in (body (drop p file)) in
@@ -120,7 +120,7 @@ begins_leg file p n m names legs small b room pass =
           ∙ ap (λ x. opening n m names (legs ++ leg ∷ []) ++ x) (drop-drop 14 p file);
     }
 
-pub begins_chart : (room : ℕ) (file : List ℕ) → ((i : ℕ) → byte file i < 256) → Pass (chart_checks room file) → Begins file 5 (fixes_in (body file)) (legs_in (body file)) [] [] (drop 5 file)
+pub begins_chart : (room : ℕ) (file : List ℕ) → AllBytes file → Pass (chart_checks room file) → Begins file 5 (fixes_in (body file)) (legs_in (body file)) [] [] (drop 5 file)
 unfolding opening
 begins_chart room [] small p = absurd (let z = p.0 in omega arith)
 begins_chart room (a ∷ []) small p = absurd (let z = p.0 in omega arith)

@@ -1,21 +1,20 @@
 -- Where the reader stands between two records: one name or one leg more, or the fault that is owed there.
-use Rattle.std.proofs.Common.{◌≡◌, ℕ, zero, suc, ◌+◌, ◌*◌, ◌<◌, ◌≤◌, List, [], ◌∷◌, ◌++◌, length, get_or, take, drop, set, sym, refl, ap, ◌∙◌, subst, subst₂, inl, inr, ⊎_elim, add-one, arith, length-append, length-drop, length-set}
+use Rattle.std.proofs.Common.{◌≡◌, ℕ, zero, suc, ◌+◌, ◌*◌, ◌<◌, ◌≤◌, List, [], ◌∷◌, ◌++◌, length, take, drop, sym, refl, ap, ◌∙◌, subst, subst₂, inl, inr, ⊎_elim, add-one, arith, length-append, length-drop}
 use Rattle.std.specs.List.{flat_map}
-use Rattle.std.proofs.lemmas.List.{drop-drop, length_push, take_more_set, take_at, take-append-le, get_or-set_same, get_or-set_other, get_or-drop, append-nil, nil_from_length}
+use Rattle.std.proofs.lemmas.List.{drop-drop, length_push, get_or_push, get_or_append_left, take_at, take-append-le, get_or-drop, append-nil, nil_from_length}
 use Rattle.std.proofs.lemmas.Bool.{cases_eq}
 use Rattle.chart.specs.declared.row.Row.{Row}
-use Rattle.chart.specs.Limits.{max_fixes}
 use Rattle.records.specs.declared.faults.ChartFault.{ChartFault}
 use Rattle.records.specs.declared.faults.ChartFault.TheVariants.{Record, OutOfPlace, NameUsed, BadFixes, BytesAfter, NoRoom}
 use Rattle.records.specs.declared.faults.RecordFault.TheVariants.{Bytes, BadCounts, BadName, BadTimes}
 use Rattle.records.specs.declared.faults.BytesFault.TheVariants.{Short, Unknown}
 use Rattle.records.specs.Format.{Name, chart_bytes, fix_bytes, end_bytes, opening, Lawful, Means, name_place}
 use Rattle.records.specs.Reports.{chart_report}
-use Rattle.records.specs.Checks.{Pass, byte, body, name_in, leg_in, fixes_in, legs_in, chart_checks, fix_checks, leg_checks, end_checks}
+use Rattle.records.specs.Checks.{Pass, byte, AllBytes, body, name_in, leg_in, fixes_in, legs_in, chart_checks, fix_checks, leg_checks, end_checks}
 use Rattle.records.specs.Faults.{Begins, Owes, at_chart, at_fix, at_leg, at_end, after_end, Finds, Owed}
-use Rattle.reader.specs.Places.{Refuses, FixAt, Stand, Indexed, names_at, legs_at, Naming, Legging, Stops}
-use Rattle.reader.proofs.NamesAt.{names_push, names_counted}
-use Rattle.reader.proofs.Openings.{begins_chart, begins_fix, begins_leg, end_split}
+use Rattle.reader.specs.Places.{Refuses, FixAt, Indexed, names_at, legs_at, Naming, Legging, Stops}
+use Rattle.reader.proofs.NamesAt.{names_push, names_length}
+use Rattle.reader.proofs.Openings.{begins_chart, begins_fix, begins_leg, end_split, push_all}
 
 -- every fault tells the layer that finds its number
 pub found_by_its_layer : (e : ChartFault) → Finds (chart_report e).layer (chart_report e).number
@@ -33,16 +32,16 @@ found_by_its_layer (NoRoom p) = inr (inr (inr (inr refl)))
 pub owed_by : (file : List ℕ) (room : ℕ) (e : ChartFault) → Owes file room (chart_report e).number (chart_report e).place → Owed file room (chart_report e)
 owed_by file room e o = record { owes = o; found = found_by_its_layer e }
 
-small_on : (file : List ℕ) (p : ℕ) → ((i : ℕ) → byte file i < 256) → (i : ℕ) → byte (drop p file) i < 256
+small_on : (file : List ℕ) (p : ℕ) → AllBytes file → AllBytes (drop p file)
 small_on file p small i = let e = get_or-drop p file i 0 in let b = small (p + i) in omega arith
 
 -- before the chart's record
 pub owes_chart : (file : List ℕ) (room : ℕ) (e : ChartFault) (is : ℕ) → Refuses (chart_checks room file) e 0 is → Owed file room (chart_report e)
-owes_chart file room e is r = owed_by file room e (at_chart r.place r.fails)
+owes_chart file room e is r = owed_by file room e (at_chart r.fails.1 r.fails.0)
 
 -- after the chart's record
-pub naming_none : (file : List ℕ) (room n m q : ℕ) (starts : List ℕ) → ((i : ℕ) → byte file i < 256) → Pass (chart_checks room file) → n ≡ fixes_in (body file) → m ≡ legs_in (body file) → q ≡ 5 → length starts ≡ max_fixes → Naming file q n m starts 0
-naming_none file room n m q starts small pass en em eq long =
+pub naming_none : (file : List ℕ) (room n m q : ℕ) → AllBytes file → Pass (chart_checks room file) → n ≡ fixes_in (body file) → m ≡ legs_in (body file) → q ≡ 5 → Naming file q n m []
+naming_none file room n m q small pass en em eq =
     let b = begins_chart room file small pass in
     let b₁ = subst₂ (λ x y. Begins file 5 x y [] [] (drop 5 file)) (sym en) (sym em) b in
     record {
@@ -50,8 +49,6 @@ naming_none file room n m q starts small pass en em eq long =
       inside = let z = pass.1.1.1.0 in let d = length-drop 2 file in omega arith;
       stand = λ i h. absurd (let z = h in omega arith);
       indexed = λ i h. absurd (let z = h in omega arith);
-      long = long;
-      upto = omega arith;
     }
 
 -- the place of the name after those given
@@ -69,40 +66,35 @@ same_place : (names : List Name) (name : Name) (j : ℕ) → j ≤ length names 
 unfolding name_place
 same_place names name j h = ap (λ xs. 5 + length (flat_map fix_bytes xs) + 3) (take-append-le j names (name ∷ []) h)
 
-module _ (file : List ℕ) (p n m : ℕ) (starts : List ℕ) (i : ℕ) (r : Naming file p n m starts i) (lt : i < n) where
+-- one name more
+module _ (file : List ℕ) (p n m : ℕ) (starts : List ℕ) (r : Naming file p n m starts) (lt : length starts < n) where
   names : List Name
-  names = names_at file (take i starts)
+  names = names_at file starts
 
-  in_starts : i < length starts
-  in_starts = omega (arith, r.long, r.begins.lawful.counted.most)
-
-  counted : length names ≡ i
+  counted : length names ≡ length starts
   unfolding names
-  counted = names_counted file starts i (omega (arith, in_starts))
+  counted = names_length file starts
 
-  same_names : names_at file (take (i + 1) (set starts i p)) ≡ names ++ name_in (body (drop p file)) ∷ []
+  same_names : names_at file (starts ++ p ∷ []) ≡ names ++ name_in (body (drop p file)) ∷ []
   unfolding names
-  same_names = ap (names_at file) (take_more_set starts i p in_starts) ∙ names_push file (take i starts) p
+  same_names = names_push file starts p
 
-  next_indexed : Indexed file (set starts i p) (i + 1)
+  next_indexed : Indexed file (starts ++ p ∷ [])
   unfolding names
-  next_indexed j h = ⊎_elim
+  next_indexed j h =
+      let long = length_push starts p in
+      ⊎_elim
       (λ e. subst₂ (λ x ns. x + 3 ≡ name_place ns j)
-      (sym (ap (λ k. get_or (set starts i p) k 0) e ∙ get_or-set_same starts i p 0 in_starts)) (sym same_names)
+      (sym (get_or_push starts p 0 j (sym e))) (sym same_names)
       (next_place n m names (name_in (body (drop p file))) p r.begins.place ∙ ap (name_place (names ++ name_in (body (drop p file)) ∷ [])) (counted ∙ sym e)))
-      (λ ne. subst₂ (λ x ns. x + 3 ≡ name_place ns j)
-      (sym (get_or-set_other starts i j p 0 ne)) (sym same_names)
-      (r.indexed j (omega arith) ∙ sym (same_place names (name_in (body (drop p file))) j (omega (arith, counted)))))
-      (cases_eq j i)
+      (λ ne.
+      let b : j < length starts = omega arith in
+      subst₂ (λ x ns. x + 3 ≡ name_place ns j)
+      (sym (get_or_append_left starts (p ∷ []) 0 j b)) (sym same_names)
+      (r.indexed j b ∙ sym (same_place names (name_in (body (drop p file))) j (omega (arith, counted)))))
+      (cases_eq j (length starts))
 
-  next_stand : Pass (fix_checks names (drop p file)) → Stand file (set starts i p) (i + 1)
-  unfolding names
-  next_stand pass j h = ⊎_elim
-      (λ e. subst (FixAt file) (sym (ap (λ k. get_or (set starts i p) k 0) e ∙ get_or-set_same starts i p 0 in_starts)) (r.inside, (pass.1.1.1.0, (pass.1.1.1.1.0, tt))))
-      (λ ne. subst (FixAt file) (sym (get_or-set_other starts i j p 0 ne)) (r.stand j (omega arith)))
-      (cases_eq j i)
-
-  pub naming_more : (q : ℕ) → Pass (fix_checks (names_at file (take i starts)) (drop p file)) → q ≡ p + (3 + byte (body (drop p file)) 0) → Naming file q n m (set starts i p) (i + 1)
+  pub naming_more : (q : ℕ) → Pass (fix_checks (names_at file starts) (drop p file)) → q ≡ p + (3 + byte (body (drop p file)) 0) → Naming file q n m (starts ++ p ∷ [])
   unfolding names
   naming_more q pass e =
       let more = begins_fix file p n m names r.begins (omega (arith, counted)) pass in
@@ -112,25 +104,23 @@ module _ (file : List ℕ) (p n m : ℕ) (starts : List ℕ) (i : ℕ) (r : Nami
       record {
         begins = subst₂ (λ x ns. Begins file x n m ns [] (drop x file)) (sym e) (sym same_names) more;
         inside = omega (arith, r.inside);
-        stand = next_stand pass;
+        stand = push_all (FixAt file) 0 starts p r.stand (r.inside, pass.1.1.1.0.0, pass.1.1.1.0.1);
         indexed = next_indexed;
-        long = length-set starts i p ∙ r.long;
-        upto = omega arith;
       }
 
-  pub stops_at_fix : (e : ChartFault) (is : ℕ) → Refuses (fix_checks (names_at file (take i starts)) (drop p file)) e p is → Stops file m e is
+  pub stops_at_fix : (e : ChartFault) (is : ℕ) → Refuses (fix_checks (names_at file starts) (drop p file)) e p is → Stops file m e is
   unfolding names
   stops_at_fix e is f = record {
-    owed = λ room fits. owed_by file room e (at_fix n m names (drop p file) (subst (λ y. Begins file y n m names [] (drop p file)) (sym f.place) r.begins) fits (omega (arith, counted)) f.fails);
-    there = f.again ∙ sym f.place;
+    owed = λ room fits. owed_by file room e (at_fix n m names (drop p file) (subst (λ y. Begins file y n m names [] (drop p file)) (sym f.fails.1) r.begins) fits (omega (arith, counted)) f.fails.0);
+    there = f.again ∙ sym f.fails.1;
   }
 
 -- after all the names
-pub legging_first : (file : List ℕ) (p n m : ℕ) (starts : List ℕ) → m ≡ legs_in (body file) → Naming file p n (legs_in (body file)) starts n → Legging file p n m (names_at file (take n starts)) p 0
-legging_first file p n m starts e r = subst (λ x. Legging file p n x (names_at file (take n starts)) p 0) (sym e) (record {
+pub legging_first : (file : List ℕ) (p n m : ℕ) (starts : List ℕ) → m ≡ legs_in (body file) → length starts ≡ n → Naming file p n (legs_in (body file)) starts → Legging file p n m (names_at file starts) p 0
+legging_first file p n m starts e all r = subst (λ x. Legging file p n x (names_at file starts) p 0) (sym e) (record {
   begins = r.begins;
   along = omega arith;
-  whole = names_counted file starts n (omega (arith, r.long, r.begins.lawful.counted.most));
+  whole = names_length file starts ∙ all;
   upto = omega arith;
 })
 
@@ -142,7 +132,7 @@ pub legs_more : (file : List ℕ) (p k : ℕ) → legs_at file p (k + 1) ≡ leg
 legs_more file p k = rw add-one refl
 
 module _ (file : List ℕ) (p n m : ℕ) (names : List Name) (base k : ℕ) (r : Legging file p n m names base k) (lt : k < m) where
-  pub legging_more : (q : ℕ) → ((i : ℕ) → byte file i < 256) → Pass (leg_checks n (drop p file)) → q ≡ p + 14 → Legging file q n m names base (k + 1)
+  pub legging_more : (q : ℕ) → AllBytes file → Pass (leg_checks n (drop p file)) → q ≡ p + 14 → Legging file q n m names base (k + 1)
   legging_more q small pass e =
       let ll = legs_length file base k in
       let more = begins_leg file p n m names (legs_at file base k) (small_on file p small) r.begins (omega arith) pass in
@@ -158,8 +148,8 @@ module _ (file : List ℕ) (p n m : ℕ) (names : List Name) (base k : ℕ) (r :
   stops_at_leg e is f =
       let ll = legs_length file base k in
       record {
-        owed = λ room fits. owed_by file room e (at_leg n m names (legs_at file base k) (drop p file) (subst (λ y. Begins file y n m names (legs_at file base k) (drop p file)) (sym f.place) r.begins) fits r.whole (omega arith) f.fails);
-        there = f.again ∙ sym f.place;
+        owed = λ room fits. owed_by file room e (at_leg n m names (legs_at file base k) (drop p file) (subst (λ y. Begins file y n m names (legs_at file base k) (drop p file)) (sym f.fails.1) r.begins) fits r.whole (omega arith) f.fails.0);
+        there = f.again ∙ sym f.fails.1;
       }
 
 -- after all the legs
@@ -170,8 +160,8 @@ module _ (file : List ℕ) (p n m : ℕ) (names : List Name) (base : ℕ) (r : L
   pub stops_at_end : (e : ChartFault) (is : ℕ) → Refuses (end_checks (drop p file)) e p is → Stops file m e is
   unfolding legs
   stops_at_end e is f = record {
-    owed = λ room fits. owed_by file room e (at_end n m names legs (drop p file) (subst (λ y. Begins file y n m names legs (drop p file)) (sym f.place) r.begins) fits r.whole (legs_length file base m) f.fails);
-    there = f.again ∙ sym f.place;
+    owed = λ room fits. owed_by file room e (at_end n m names legs (drop p file) (subst (λ y. Begins file y n m names legs (drop p file)) (sym f.fails.1) r.begins) fits r.whole (legs_length file base m) f.fails.0);
+    there = f.again ∙ sym f.fails.1;
   }
 
   module _ (q : ℕ) (e : q ≡ p + 2) (pass : Pass (end_checks (drop p file))) where

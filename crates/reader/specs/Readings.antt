@@ -1,5 +1,5 @@
 -- What a reader holds once its file is accepted.
-use Rattle.std.specs.Prelude.{◌≡◌, ℕ, ◌<◌, ◌≤◌, List, ◌++◌, length, take, drop}
+use Rattle.std.specs.Prelude.{◌≡◌, ℕ, ◌<◌, ◌≤◌, List, ◌++◌, length, take, drop, codes}
 use Rattle.chart.specs.declared.row.Row.{Row}
 use Rattle.records.specs.Format.{Name, Means, name_at, name_place}
 use Rattle.reader.specs.declared.counts.Counts.{Counts}
@@ -10,7 +10,7 @@ use Rattle.reader.specs.Places.{names_at}
 
 -- the names of the accepted file; none before
 unfoldable pub names_of : Reader → List Name
-names_of r = names_at r.file.now (take r.index.fixes r.index.starts)
+names_of r = names_at r.cursor.file.now r.starts.items
 
 -- the file means a chart: the reader has its names and stands after the end record, the counts are its own, the first places
 -- of memory hold its legs, and later places what they held
@@ -33,3 +33,7 @@ pub record Names (file : List ℕ) (names : List Name) (k : ℕ) (name : FixName
 -- the number of the refusal of a name
 abbrev pub name_number : NoSuchFix → ℕ
 name_number _ = 11
+
+-- and what it says in words
+abbrev pub name_words : NoSuchFix → List ℕ
+name_words _ = codes "no such fix"

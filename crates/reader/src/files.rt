@@ -1,106 +1,104 @@
 // A whole file: all its records in their order, and then its legs into memory.
-ghost use Rattle.std.specs.Prelude.{◌≡◌, ℕ, ◌+◌, ◌*◌, ◌<◌, ◌≤◌, List, length, drop, MatchResult, slice_set};
-ghost use Rattle.chart.specs.Limits.{max_fixes};
-ghost use Rattle.records.specs.Format.{Name};
+ghost use Rattle.std.specs.Prelude.{◌≡◌, ℕ, ◌+◌, ◌*◌, ◌<◌, ◌≤◌, List, [], length, drop, MatchResult};
 ghost use Rattle.records.specs.Reports.{chart_report};
 ghost use Rattle.records.specs.Checks.{body, legs_in, leg_in};
 ghost use Rattle.records.specs.Faults.{Owed};
-ghost use Rattle.reader.specs.Places.{Naming, Legging, Along, Ended, Stops, Filled, Checked};
+ghost use Rattle.reader.specs.Places.{Naming, Along, Ended, Stops, StopsAlong, Filled, Checked};
 
 use super::counts::Counts;
 use super::cursor::Cursor;
-use super::reading::{read_chart, read_end, read_fix, read_leg};
+use arrayvec::ArrayVec;
+use chart::limits::MAX_FIXES;
 use chart::row::Row;
 use records::bytes::onward;
 use records::faults::ChartFault;
 use records::fields::leg_row;
 use records::sizes::{LEG_BODY, MARK_BYTES};
 
-// The names, one after the other, and in `starts` the places of their records.
-fn read_fixes(
-    cursor: &mut Cursor,
-    file: &[u8],
-    fixes: u16,
-    starts: &mut [usize],
-) -> Result<(), ChartFault>
-    requires { Naming file.now cursor.old.place fixes (legs_in (body file.now)) starts.old 0 }
-    ensures { MatchResult result
-        (λ _. Naming file.now cursor.new.place fixes (legs_in (body file.now)) starts.new fixes)
-        (λ e. Stops file.now (legs_in (body file.now)) e cursor.new.place) }
-{
-    for i in 0..fixes as usize {
-        let start = cursor.place;
-        read_fix(cursor, file, starts, i)?;
-        starts[i] = start;
-    }
-    Ok(())
-}
-
-// The legs, one after the other.
-fn read_legs(cursor: &mut Cursor, file: &[u8], counts: Counts) -> Result<(), ChartFault>
-    requires { cursor.old.place ≤ length file.now }
-    ensures { MatchResult result
-        (λ _. Along file.now cursor.new.place counts.fixes counts.legs cursor.old.place counts.legs)
-        (λ e. (names : List Name) → Legging file.now cursor.old.place counts.fixes counts.legs names cursor.old.place 0 → Stops file.now counts.legs e cursor.new.place) }
-{
-    for _ in 0..counts.legs {
-        read_leg(cursor, file, counts.fixes)?;
-    }
-    Ok(())
-}
-
-// The legs, the end record, and that nothing follows it.
-fn read_legs_to_end(cursor: &mut Cursor, file: &[u8], counts: Counts) -> Result<(), ChartFault>
-    requires { cursor.old.place ≤ length file.now }
-    ensures { MatchResult result
-        (λ _. Ended file.now counts.fixes counts.legs cursor.old.place cursor.new.place)
-        (λ e. (names : List Name) → Legging file.now cursor.old.place counts.fixes counts.legs names cursor.old.place 0 → Stops file.now counts.legs e cursor.new.place) }
-{
-    read_legs(cursor, file, counts)?;
-    read_end(cursor, file)?;
-    let place = cursor.place;
-    if place < file.len() {
-        return Err(ChartFault::BytesAfter { place });
-    }
-    Ok(())
-}
-
-// What a file was found to hold: its counts, and the place where the records of its legs begin.
-#[derive(Clone, Copy)]
+// What a file was found to hold: its counts, the places of the records of its names, and the place where the records of its
+// legs begin.
+#[derive(Drop)]
 pub(crate) struct Found {
     pub(crate) counts: Counts,
+    pub(crate) starts: ArrayVec<usize, MAX_FIXES>,
     pub(crate) base: usize,
 }
 
-// Checks all records from the beginning of the file, where there is room for so many legs.
-pub(crate) fn check_file(
-    cursor: &mut Cursor,
-    file: &[u8],
-    room: usize,
-    starts: &mut [usize],
-) -> Result<Found, ChartFault>
-    requires { length starts.old ≡ max_fixes }
-    ensures { MatchResult result
-        (λ f. Checked file.now room starts.new f.counts.fixes f.counts.legs f.base × (cursor.new.place ≡ length file.now))
-        (λ e. Owed file.now room (chart_report e) × (cursor.new.place ≡ (chart_report e).place)) }
-{
-    cursor.place = 0;
-    let counts = read_chart(cursor, file, room)?;
-    read_fixes(cursor, file, counts.fixes, starts)?;
-    let base = cursor.place;
-    read_legs_to_end(cursor, file, counts)?;
-    Ok(Found { counts, base })
+impl Cursor<'_> {
+    // The names, one after the other: the places of their records.
+    fn read_fixes(&mut self, fixes: u16) -> Result<ArrayVec<usize, MAX_FIXES>, ChartFault>
+        requires { Naming self.old.file.now self.old.place fixes (legs_in (body self.old.file.now)) [] }
+        ensures same_file { self.new.file ≡ self.old.file }
+        ensures reads { MatchResult result
+            (λ starts. Naming self.old.file.now self.new.place fixes (legs_in (body self.old.file.now)) starts.items × (length starts.items ≡ fixes))
+            (λ e. Stops self.old.file.now (legs_in (body self.old.file.now)) e self.new.place) }
+    {
+        let mut starts = ArrayVec::new();
+        for _ in 0..fixes {
+            let start = self.place;
+            self.read_fix(starts.as_slice())?;
+            starts.push(start);
+        }
+        Ok(starts)
+    }
+
+    // The legs, one after the other.
+    fn read_legs(&mut self, counts: Counts) -> Result<(), ChartFault>
+        requires { self.old.place ≤ length self.old.file.now }
+        ensures same_file { self.new.file ≡ self.old.file }
+        ensures reads { MatchResult result
+            (λ _. Along self.old.file.now self.new.place counts.fixes counts.legs self.old.place counts.legs)
+            (λ e. StopsAlong self.old.file.now counts.fixes counts.legs self.old.place e self.new.place) }
+    {
+        for _ in 0..counts.legs {
+            self.read_leg(counts.fixes)?;
+        }
+        Ok(())
+    }
+
+    // The legs, the end record, and that nothing follows it.
+    fn read_legs_to_end(&mut self, counts: Counts) -> Result<(), ChartFault>
+        requires { self.old.place ≤ length self.old.file.now }
+        ensures same_file { self.new.file ≡ self.old.file }
+        ensures reads { MatchResult result
+            (λ _. Ended self.old.file.now counts.fixes counts.legs self.old.place self.new.place)
+            (λ e. StopsAlong self.old.file.now counts.fixes counts.legs self.old.place e self.new.place) }
+    {
+        self.read_legs(counts)?;
+        self.read_end()?;
+        let place = self.place;
+        if place < self.file.len() {
+            return Err(ChartFault::BytesAfter { place });
+        }
+        Ok(())
+    }
+
+    // Checks all records from the beginning of the file, where there is room for so many legs.
+    pub(crate) fn check_file(&mut self, room: usize) -> Result<Found, ChartFault>
+        ensures same_file { self.new.file ≡ self.old.file }
+        ensures reads { MatchResult result
+            (λ f. Checked self.old.file.now room f.starts.items f.counts.fixes f.counts.legs f.base × (self.new.place ≡ length self.old.file.now))
+            (λ e. Owed self.old.file.now room (chart_report e) × (self.new.place ≡ (chart_report e).place)) }
+    {
+        self.place = 0;
+        let counts = self.read_chart(room)?;
+        let starts = self.read_fixes(counts.fixes)?;
+        let base = self.place;
+        self.read_legs_to_end(counts)?;
+        Ok(Found {
+            counts,
+            starts,
+            base,
+        })
+    }
 }
 
-// Puts the leg whose record stands at a place into the row of its number.
-fn fill_one(file: &[u8], at: usize, k: usize, memory: &mut [Row])
-    requires { (at + 14 ≤ length file.now) × (k < length memory.old) }
-    ensures { memory.new ≡ slice_set memory.old k (leg_in (body (drop at file.now))) }
+// The leg whose record stands at a place.
+fn leg_at(file: &[u8], at: usize) -> Row
+    requires { at + 14 ≤ length file.now }
+    ensures { result ≡ leg_in (body (drop at file.now)) }
 {
-    let rest = onward(file, at);
-    if let Some(row) = leg_row(onward(rest, MARK_BYTES)) {
-        memory[k] = row;
-    }
+    leg_row(onward(onward(file, at), MARK_BYTES)).unwrap()
 }
 
 // Puts the legs whose records stand in the file from a place on into the first rows.
@@ -108,7 +106,8 @@ pub(crate) fn fill(file: &[u8], base: usize, legs: u16, memory: &mut [Row])
     requires { (base + 14 * legs ≤ length file.now) × (legs ≤ length memory.old) }
     ensures { Filled file.now base legs memory.old memory.new }
 {
-    for k in 0..legs as usize {
-        fill_one(file, base + (MARK_BYTES + LEG_BODY) * k, k, memory);
+    let rows = &mut memory[..legs as usize];
+    for (k, row) in rows.iter_mut().enumerate() {
+        *row = leg_at(file, base + (MARK_BYTES + LEG_BODY) * k);
     }
 }

@@ -1,22 +1,36 @@
 // The name of a fix, and the refusal where there is no such fix.
-ghost use Rattle.std.specs.Prelude.{◌≡◌};
-ghost use Rattle.reader.specs.Readings.{name_number};
+ghost use Rattle.std.specs.Prelude.{◌≡◌, Some, codes};
+ghost use Rattle.reader.specs.Readings.{name_number, name_words};
+
+use chart::refusals::Refusal;
+use std::error::Error;
+use std::fmt;
 
 // A part of the file itself, and its place there.
-#[derive(Clone, Copy)]
+#[derive(Clone, Copy, Debug, PartialEq, Eq)]
 pub struct FixName<'a> {
     pub text: &'a [u8],
     pub place: usize,
 }
 
 // The accepted file has no fix of this number, or no file is accepted yet.
-#[derive(Clone, Copy)]
+#[derive(Clone, Copy, Debug, PartialEq, Eq)]
 pub struct NoSuchFix;
 
-impl NoSuchFix {
-    pub fn number(&self) -> u8
-        ensures { result ≡ name_number self.now }
-    {
+impl Refusal for NoSuchFix {
+    ghost number_of = { name_number };
+
+    fn number(&self) -> u8 {
         11
     }
 }
+
+impl fmt::Display for NoSuchFix {
+    ghost output = { λ refusal. Some (name_words refusal) };
+
+    fn fmt<W: fmt::Write>(&self, f: &mut fmt::Formatter<W>) -> fmt::Result {
+        f.write_str("no such fix")
+    }
+}
+
+impl Error for NoSuchFix {}

@@ -1,49 +1,42 @@
-// A guard over the cursor: it puts the place back at every way out, unless the record was accepted.
-ghost use Rattle.std.specs.Prelude.{◌≡◌, true, false, if◌then◌else◌};
+// A guard over the cursor's place: it puts the place back at every way out, unless the record was accepted.
+ghost use Rattle.std.specs.Prelude.{◌≡◌, Some, None, unwrap_or};
 
-use super::cursor::Cursor;
-
+// It holds the place alone, and not the cursor: what becomes of a cursor behind a reference in a struct is not proved, since the
+// cursor holds a reference itself.
 pub(crate) struct Guard<'r> {
-    cursor: &'r mut Cursor,
-    start: usize,
-    kept: bool,
+    place: &'r mut usize,
+    // The place to go back to, until the record is accepted.
+    rewind: Option<usize>,
 }
 
 impl Drop for Guard<'_> {
     fn drop(self)
-        ensures { self.exit.0.now.place ≡ (if self.entry.kept then self.entry.cursor.now.place else self.entry.start) }
+        ensures { self.exit.0.now ≡ unwrap_or self.entry.rewind self.entry.place.now }
     {
-        if !self.kept {
-            self.cursor.place = self.start;
+        let Guard { place, rewind } = self;
+        if let Some(start) = rewind {
+            *place = start;
         }
-        let Guard {
-            cursor: _,
-            start: _,
-            kept: _,
-        } = self;
     }
 }
 
 impl<'r> Guard<'r> {
-    pub(crate) fn new(cursor: &'r mut Cursor) -> Guard<'r>
-        ensures { (result.cursor.ghost_name ≡ cursor.entry.ghost_name) × ((result.cursor.now ≡ cursor.old) × ((result.start ≡ cursor.old.place) × (result.kept ≡ false))) }
+    pub(crate) fn new(place: &'r mut usize) -> Guard<'r>
+        ensures same_reference { result.place.ghost_name ≡ place.entry.ghost_name }
+        ensures there { result.place.now ≡ place.old }
+        ensures rewinds { result.rewind ≡ Some place.old }
     {
-        let start = cursor.place;
-        Guard {
-            cursor,
-            start,
-            kept: false,
-        }
+        let rewind = Some(*place);
+        Guard { place, rewind }
     }
 
     // Accepts the record, which ends before this place.
     pub(crate) fn accept(&mut self, place: usize)
-        ensures lender { self.new.cursor.ghost_name ≡ self.old.cursor.ghost_name }
-        ensures moved { self.new.cursor.now.place ≡ place }
-        ensures start { self.new.start ≡ self.old.start }
-        ensures kept { self.new.kept ≡ true }
+        ensures same_reference { self.new.place.ghost_name ≡ self.old.place.ghost_name }
+        ensures moved { self.new.place.now ≡ place }
+        ensures kept { self.new.rewind ≡ None }
     {
-        self.cursor.place = place;
-        self.kept = true;
+        *self.place = place;
+        self.rewind = None;
     }
 }

@@ -7,66 +7,55 @@ ghost use Rattle.reader.specs.Readings.{names_of, Accepts, Names};
 
 use super::counts::Counts;
 use super::cursor::Cursor;
-use super::files::{check_file, fill};
+use super::files::fill;
 use super::fix_name::{FixName, NoSuchFix};
-use super::readers::{NameIndex, Reader};
-use chart::limits::MAX_FIXES;
+use super::names::name_at;
+use super::readers::Reader;
+use arrayvec::ArrayVec;
 use chart::row::Row;
 use records::faults::ChartFault;
+use records::sizes::MARK_BYTES;
 
 impl<'a> Reader<'a> {
     // A reader at the beginning of a file, which has accepted nothing yet.
     pub fn new(file: &'a [u8]) -> Reader<'a>
-        ensures over { result.file.now ≡ file.now }
+        ensures over { result.cursor.file.now ≡ file.now }
         ensures at_its_beginning { result.cursor.place ≡ 0 }
         ensures without_names { names_of result ≡ [] }
     {
         Reader {
-            file,
-            cursor: Cursor { place: 0 },
-            index: NameIndex {
-                fixes: 0,
-                starts: [0usize; MAX_FIXES],
-            },
+            cursor: Cursor { file, place: 0 },
+            starts: ArrayVec::new(),
         }
     }
 
     // Reads the file from its beginning, and puts its legs into the first places of memory.
     pub fn read_file(&mut self, memory: &mut [Row]) -> Result<Counts, ChartFault>
-        ensures same_file { self.new.file.now ≡ self.old.file.now }
+        ensures same_file { self.new.cursor.file.now ≡ self.old.cursor.file.now }
         ensures reads_the_chart_or_tells_the_fault { MatchResult result
-            (λ counts. Accepts self.old.file.now counts self.new memory.old memory.new)
-            (λ e. Owed self.old.file.now (length memory.old) (chart_report e) × (self.new.cursor.place ≡ (chart_report e).place)
-            × (self.new.index ≡ self.old.index) × (memory.new ≡ memory.old)) }
-        ensures one_verdict { Sole self.old.file.now (length memory.old) }
+            (λ counts. Accepts self.old.cursor.file.now counts self.new memory.old memory.new)
+            (λ e. Owed self.old.cursor.file.now (length memory.old) (chart_report e) × (self.new.cursor.place ≡ (chart_report e).place)
+            × (self.new.starts ≡ self.old.starts) × (memory.new ≡ memory.old)) }
+        ensures one_verdict { Sole self.old.cursor.file.now (length memory.old) }
     {
-        let file = self.file;
-        let room = memory.len();
-        let mut starts = [0usize; MAX_FIXES];
-        let found = check_file(&mut self.cursor, file, room, &mut starts)?;
-        fill(file, found.base, found.counts.legs, memory);
-        let fixes = found.counts.fixes;
-        self.index = NameIndex { fixes, starts };
+        let found = self.cursor.check_file(memory.len())?;
+        fill(self.cursor.file, found.base, found.counts.legs, memory);
+        self.starts = found.starts;
         Ok(found.counts)
     }
 
     // The name of a fix of the accepted file.
     pub fn name(&self, fix: u16) -> Result<FixName<'a>, NoSuchFix>
         ensures { MatchResult result
-            (λ name. Names self.now.file.now (names_of self.now) fix name)
+            (λ name. Names self.now.cursor.file.now (names_of self.now) fix name)
             (λ _. length (names_of self.now) ≤ fix) }
     {
-        let index = &self.index;
-        if fix >= index.fixes {
+        let Some(start) = self.starts.get(fix as usize) else {
             return Err(NoSuchFix);
-        }
-        let file = self.file;
-        let start = index.starts[fix as usize];
-        let len = file[start + 2] as usize;
-        let place = start + 3;
+        };
         Ok(FixName {
-            text: &file[place..place + len],
-            place,
+            text: name_at(self.cursor.file, *start),
+            place: start + MARK_BYTES + 1,
         })
     }
 }

@@ -16,8 +16,8 @@ impl Reader<'_> {
         ensures takes_exactly_its_rows { MatchResult result
             (λ _. (table.new.fixes ≡ length (names_of self.now)) × (map plain (table_legs table.new) ≡ table.old.rows.now))
             (λ e. TableOwes (length (names_of self.now)) table.old.rows.now e × (table.new ≡ table.old)) }
-        ensures takes_the_legs_of_the_file { Means self.now.file.now (names_of self.now) table.old.rows.now → is_ok result ≡ true }
+        ensures takes_the_legs_of_the_file { Means self.now.cursor.file.now (names_of self.now) table.old.rows.now → is_ok result ≡ true }
     {
-        table.take_rows(self.index.fixes)
+        table.take_rows(self.starts.len() as u16)
     }
 }

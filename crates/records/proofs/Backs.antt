@@ -7,7 +7,7 @@ use Rattle.chart.specs.declared.row.Standing.{Standing}
 use Rattle.chart.specs.declared.row.Standing.TheVariants.{Open}
 use Rattle.records.specs.declared.kinds.RecordKind.TheVariants.{Leg}
 use Rattle.records.specs.Format.{mark, two, four, leg_bytes}
-use Rattle.records.specs.Checks.{byte, Pass, body, leg_checks, leg_in}
+use Rattle.records.specs.Checks.{byte, AllBytes, Pass, body, leg_checks, leg_in}
 
 -- a number from the bytes that it is written in
 pub two_back : (x : ℕ) → x / 256 * 256 + x % 256 ≡ x
@@ -51,7 +51,7 @@ spell xs i (suc k) h =
     ∙ ap (λ ys. byte xs i ∷ ys) (spell xs (i + 1) k (omega arith) ∙ ap (λ j. spelled xs (i + 1) k ++ drop j xs) (omega arith))
 
 -- and the bytes from the leg that they say
-pub leg_split : (n : ℕ) (rest : List ℕ) → ((i : ℕ) → byte rest i < 256) → Pass (leg_checks n rest) → rest ≡ leg_bytes (leg_in (body rest)) ++ drop 14 rest
+pub leg_split : (n : ℕ) (rest : List ℕ) → AllBytes rest → Pass (leg_checks n rest) → rest ≡ leg_bytes (leg_in (body rest)) ++ drop 14 rest
 unfolding spelled
 leg_split n rest small p =
     sym (take-append-drop 2 rest)

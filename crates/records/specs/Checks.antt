@@ -1,5 +1,5 @@
 -- The checks of each record, in their order.
-use Rattle.std.specs.Prelude.{◌≡◌, ℕ, ◌+◌, ◌*◌, ◌≤◌, ◌⊎◌, List, [], ◌∷◌, ◌++◌, length, take, drop, slice_index}
+use Rattle.std.specs.Prelude.{◌≡◌, ℕ, ◌+◌, ◌*◌, ◌<◌, ◌≤◌, ◌⊎◌, List, [], ◌∷◌, ◌++◌, length, take, drop, slice_index}
 use Rattle.chart.specs.declared.row.Row.{Row}
 use Rattle.chart.specs.declared.row.Standing.TheVariants.{Open}
 use Rattle.chart.specs.Rows.{Counted, Timed, Placed}
@@ -24,6 +24,10 @@ Pass ((k asks P) ∷ cs) = P × Pass cs
 
 abbrev pub byte : List ℕ → ℕ → ℕ
 byte bytes i = slice_index bytes i
+
+-- each of these numbers is a byte
+abbrev pub AllBytes : List ℕ → Type 0
+AllBytes xs = (i : ℕ) → byte xs i < 256
 
 -- a number of several bytes, the high byte first
 abbrev pub two_in : List ℕ → ℕ → ℕ

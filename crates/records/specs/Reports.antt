@@ -1,4 +1,5 @@
 -- What each fault tells: its number, its layer and its place.
+use Rattle.std.specs.Prelude.{◌≡◌, ℕ, List}
 use Rattle.records.specs.declared.faults.Report.{Report}
 use Rattle.records.specs.declared.faults.Layer.TheVariants as layer
 use Rattle.records.specs.declared.faults.BytesFault.{BytesFault}
@@ -7,6 +8,7 @@ use Rattle.records.specs.declared.faults.RecordFault.{RecordFault}
 use Rattle.records.specs.declared.faults.RecordFault.TheVariants.{Bytes, BadCounts, BadName, BadTimes}
 use Rattle.records.specs.declared.faults.ChartFault.{ChartFault}
 use Rattle.records.specs.declared.faults.ChartFault.TheVariants.{Record, OutOfPlace, NameUsed, BadFixes, BytesAfter, NoRoom}
+use Rattle.records.specs.Checks.{Check, FirstFails}
 
 abbrev pub bytes_report : BytesFault → Report
 bytes_report (Short p) = record { number = 1; layer = layer.Bytes; place = p }
@@ -27,3 +29,7 @@ chart_report (NameUsed p) = record { number = 6; layer = layer.Chart; place = p 
 chart_report (BadFixes p) = record { number = 7; layer = layer.Chart; place = p }
 chart_report (BytesAfter p) = record { number = 9; layer = layer.Chart; place = p }
 chart_report (NoRoom p) = record { number = 10; layer = layer.Chart; place = p }
+
+-- the first of these checks that fails is the fault that is told, at the place p
+abbrev pub Fails : List Check → ℕ → Report → Type 0
+Fails checks p r = FirstFails checks r.number × (r.place ≡ p)

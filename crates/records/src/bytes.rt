@@ -1,9 +1,9 @@
 // The bytes of a record: where it begins, which kind its mark is, and whether its body is complete.
-ghost use Rattle.std.specs.Prelude.{◌≡◌, ℕ, ◌<◌, ◌≤◌, [], ◌∷◌, length, drop, MatchOption, MatchResult, ◌≢◌};
+ghost use Rattle.std.specs.Prelude.{◌≡◌, ℕ, ◌<◌, ◌≤◌, [], ◌∷◌, length, take, drop, MatchOption, MatchResult, ◌≢◌};
 ghost use Rattle.records.specs.declared.kinds.RecordKind.{RecordKind};
 ghost use Rattle.records.specs.Format.{mark};
-ghost use Rattle.records.specs.Reports.{bytes_report};
-ghost use Rattle.records.specs.Checks.{Marked, FirstFails, mark_checks, body};
+ghost use Rattle.records.specs.Reports.{bytes_report, Fails};
+ghost use Rattle.records.specs.Checks.{Marked, mark_checks, body};
 
 use super::faults::BytesFault;
 use super::kinds::RecordKind;
@@ -12,10 +12,7 @@ use super::kinds::RecordKind;
 pub fn onward(file: &[u8], at: usize) -> &[u8]
     ensures { result.now ≡ drop at file.now }
 {
-    if at > file.len() {
-        return &[];
-    }
-    &file[at..]
+    file.get(at..).unwrap_or(&[])
 }
 
 // The kind that two bytes mark.
@@ -31,29 +28,38 @@ fn decide(a: u8, b: u8) -> Option<RecordKind>
     }
 }
 
-// The kind of the record that begins with these bytes, which stand at the place `at`, and its body with all that follows.
-pub fn opened(rest: &[u8], at: usize) -> Result<(RecordKind, &[u8]), BytesFault>
-    ensures { MatchResult result
-        (λ k. (2 ≤ length rest.now) × Marked k.0 rest.now × (k.1.now ≡ body rest.now))
-        (λ e. FirstFails (mark_checks rest.now) (bytes_report e).number × ((bytes_report e).place ≡ at)) }
-{
-    let [a, b, body @ ..] = rest else {
-        return Err(BytesFault::Short { place: at });
-    };
-    match decide(*a, *b) {
-        Some(kind) => Ok((kind, body)),
-        None => Err(BytesFault::Unknown { place: at }),
-    }
+// Bytes of a record with all that follows it, and the place of the record's mark in the file.
+#[derive(Clone, Copy, Debug, PartialEq, Eq)]
+pub struct Part<'a> {
+    pub bytes: &'a [u8],
+    pub place: usize,
 }
 
-// Fails unless the body of the record at the place `at` has so many bytes.
-pub fn complete(body: &[u8], at: usize, count: usize) -> Result<(), BytesFault>
-    ensures { MatchResult result
-        (λ _. count ≤ length body.now)
-        (λ e. (length body.now < count) × (e ≡ BytesFault.Short at)) }
-{
-    if body.len() < count {
-        return Err(BytesFault::Short { place: at });
+impl<'a> Part<'a> {
+    // The kind of the record whose mark these bytes begin with, and its body.
+    pub fn opened(&self) -> Result<(RecordKind, Part<'a>), BytesFault>
+        ensures { MatchResult result
+            (λ k. (2 ≤ length self.now.bytes.now) × Marked k.0 self.now.bytes.now × (k.1.bytes.now ≡ body self.now.bytes.now) × (k.1.place ≡ self.now.place))
+            (λ e. Fails (mark_checks self.now.bytes.now) self.now.place (bytes_report e)) }
+    {
+        let Part { bytes, place } = *self;
+        let [a, b, body @ ..] = bytes else {
+            return Err(BytesFault::Short { place });
+        };
+        match decide(*a, *b) {
+            Some(kind) => Ok((kind, Part { bytes: body, place })),
+            None => Err(BytesFault::Unknown { place }),
+        }
     }
-    Ok(())
+
+    // The first bytes of a body, as many as given, or the fault that there are fewer.
+    pub fn complete(&self, count: usize) -> Result<&'a [u8], BytesFault>
+        ensures { MatchResult result
+            (λ b. (count ≤ length self.now.bytes.now) × (b.now ≡ take count self.now.bytes.now))
+            (λ e. (length self.now.bytes.now < count) × (e ≡ BytesFault.Short self.now.place)) }
+    {
+        self.bytes
+            .get(..count)
+            .ok_or(BytesFault::Short { place: self.place })
+    }
 }

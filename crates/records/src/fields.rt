@@ -1,45 +1,23 @@
-// The fields of a body: numbers of several bytes have the high byte first.
-ghost use Rattle.std.specs.Prelude.{◌≡◌, ◌+◌, ◌<◌, ◌≤◌, length, MatchOption};
-ghost use Rattle.records.specs.Checks.{two_in, four_in, leg_in};
+// The fields of a leg record's body: numbers of several bytes have the high byte first.
+ghost use Rattle.std.specs.Prelude.{◌≡◌, ◌<◌, ◌≤◌, length, MatchOption};
+ghost use Rattle.records.specs.Checks.{leg_in};
 
-use super::sizes::LEG_BODY;
 use chart::row::{Row, Standing};
 
-pub(crate) fn two_at(body: &[u8], i: usize) -> u16
-    requires { i + 2 ≤ length body.now }
-    ensures { result ≡ two_in body.now i }
-{
-    u16::from_be_bytes([body[i], body[i + 1]])
-}
-
-pub(crate) fn four_at(body: &[u8], i: usize) -> u32
-    requires { i + 4 ≤ length body.now }
-    ensures { result ≡ four_in body.now i }
-{
-    u32::from_be_bytes([body[i], body[i + 1], body[i + 2], body[i + 3]])
-}
-
-// The leg in a leg record's body, which is open.
-pub(crate) fn row_in(body: &[u8]) -> Row
-    requires { 12 ≤ length body.now }
-    ensures { result ≡ leg_in body.now }
-{
-    Row {
-        from: u16::from(body[0]),
-        to: u16::from(body[1]),
-        low: four_at(body, 2),
-        high: four_at(body, 6),
-        top: two_at(body, 10),
-        standing: Standing::Open,
-    }
-}
-
-// The leg in a leg record's body, or none where the body is not complete.
+// The leg in a leg record's body, which is open, or none where the body is not complete.
 pub fn leg_row(body: &[u8]) -> Option<Row>
     ensures { MatchOption result (length body.now < 12) (λ row. (12 ≤ length body.now) × (row ≡ leg_in body.now)) }
 {
-    if body.len() < LEG_BODY {
-        return None;
-    }
-    Some(row_in(body))
+    let (&[from, to], rest) = body.split_first_chunk::<2>()?;
+    let (low, rest) = rest.split_first_chunk::<4>()?;
+    let (high, rest) = rest.split_first_chunk::<4>()?;
+    let (top, _) = rest.split_first_chunk::<2>()?;
+    Some(Row {
+        from: u16::from(from),
+        to: u16::from(to),
+        low: u32::from_be_bytes(*low),
+        high: u32::from_be_bytes(*high),
+        top: u16::from_be_bytes(*top),
+        standing: Standing::Open,
+    })
 }

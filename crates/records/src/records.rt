@@ -1,15 +1,15 @@
 // The bodies of records, each read into a record whose name, where it has one, is that part of the file itself.
 ghost use Rattle.std.specs.Prelude.{◌≡◌, ℕ, ◌+◌, ◌<◌, ◌≤◌, length, Decides, MatchResult};
 ghost use Rattle.records.specs.Format.{Sign, Named};
-ghost use Rattle.records.specs.Reports.{record_report, chart_report};
-ghost use Rattle.records.specs.Checks.{FirstFails, Pass, Marked, mark_checks, body, due_checks, chart_body, fix_body, leg_body, body_checks, fixes_in, legs_in, name_in, leg_in};
+ghost use Rattle.records.specs.Reports.{record_report, chart_report, Fails};
+ghost use Rattle.records.specs.Checks.{Pass, Marked, mark_checks, body, due_checks, chart_body, fix_body, leg_body, body_checks, fixes_in, legs_in, name_in, leg_in};
 ghost use Rattle.records.specs.Bodies.{Says};
 
-use super::bytes::{complete, opened};
-use super::faults::{ChartFault, RecordFault};
-use super::fields::{row_in, two_at};
+use super::bytes::Part;
+use super::faults::{BytesFault, ChartFault, RecordFault};
+use super::fields::leg_row;
 use super::kinds::RecordKind;
-use super::sizes::{CHART_BODY, LEG_BODY, MAX_NAME, MIN_NAME};
+use super::sizes::{CHART_BODY, MAX_NAME, MIN_NAME};
 use chart::checks::are_counts;
 use chart::row::Row;
 
@@ -36,83 +36,82 @@ fn is_name(name: &[u8]) -> bool
     (MIN_NAME..=MAX_NAME).contains(&name.len()) && name.iter().all(|b| is_sign(*b))
 }
 
-// The numbers of fixes and of legs in a chart record's body.
-fn chart_in<'a>(body: &'a [u8], at: usize) -> Result<Record<'a>, RecordFault>
-    ensures { MatchResult result
-        (λ x. Pass (chart_body body.now) × (x ≡ Record.Chart (fixes_in body.now) (legs_in body.now)))
-        (λ e. FirstFails (chart_body body.now) (record_report e).number × ((record_report e).place ≡ at)) }
-{
-    complete(body, at, CHART_BODY)?;
-    let fixes = u16::from(body[0]);
-    let legs = two_at(body, 1);
-    if !are_counts(fixes, legs as usize) {
-        return Err(RecordFault::BadCounts { place: at });
+impl<'a> Part<'a> {
+    // The numbers of fixes and of legs in a chart record's body.
+    fn chart(&self) -> Result<Record<'a>, RecordFault>
+        ensures { MatchResult result
+            (λ x. Pass (chart_body self.now.bytes.now) × (x ≡ Record.Chart (fixes_in self.now.bytes.now) (legs_in self.now.bytes.now)))
+            (λ e. Fails (chart_body self.now.bytes.now) self.now.place (record_report e)) }
+    {
+        let body = self.complete(CHART_BODY)?;
+        let fixes = u16::from(body[0]);
+        let legs = u16::from_be_bytes([body[1], body[2]]);
+        if !are_counts(fixes, legs as usize) {
+            return Err(RecordFault::BadCounts { place: self.place });
+        }
+        Ok(Record::Chart { fixes, legs })
     }
-    Ok(Record::Chart { fixes, legs })
-}
 
-// The name in a fix record's body.
-fn fix_in<'a>(body: &'a [u8], at: usize) -> Result<Record<'a>, RecordFault>
-    ensures { MatchResult result
-        (λ x. Pass (fix_body body.now) × Says RecordKind.Fix body.now x)
-        (λ e. FirstFails (fix_body body.now) (record_report e).number × ((record_report e).place ≡ at)) }
-{
-    complete(body, at, 1)?;
-    let len = body[0] as usize;
-    complete(body, at, 1 + len)?;
-    let name = &body[1..1 + len];
-    if !is_name(name) {
-        return Err(RecordFault::BadName { place: at });
+    // The name in a fix record's body.
+    fn fix(&self) -> Result<Record<'a>, RecordFault>
+        ensures { MatchResult result
+            (λ x. Pass (fix_body self.now.bytes.now) × Says RecordKind.Fix self.now.bytes.now x)
+            (λ e. Fails (fix_body self.now.bytes.now) self.now.place (record_report e)) }
+    {
+        let len = self.complete(1)?[0] as usize;
+        let name = &self.complete(1 + len)?[1..];
+        if !is_name(name) {
+            return Err(RecordFault::BadName { place: self.place });
+        }
+        Ok(Record::Fix { name })
     }
-    Ok(Record::Fix { name })
-}
 
-// The leg in a leg record's body.
-fn leg_in<'a>(body: &'a [u8], at: usize) -> Result<Record<'a>, RecordFault>
-    ensures { MatchResult result
-        (λ x. Pass (leg_body body.now) × (x ≡ Record.Leg (leg_in body.now)))
-        (λ e. FirstFails (leg_body body.now) (record_report e).number × ((record_report e).place ≡ at)) }
-{
-    complete(body, at, LEG_BODY)?;
-    let row = row_in(body);
-    if !row.is_timed() {
-        return Err(RecordFault::BadTimes { place: at });
+    // The leg in a leg record's body.
+    fn leg(&self) -> Result<Record<'a>, RecordFault>
+        ensures { MatchResult result
+            (λ x. Pass (leg_body self.now.bytes.now) × (x ≡ Record.Leg (leg_in self.now.bytes.now)))
+            (λ e. Fails (leg_body self.now.bytes.now) self.now.place (record_report e)) }
+    {
+        let row = leg_row(self.bytes).ok_or(BytesFault::Short { place: self.place })?;
+        if !row.is_timed() {
+            return Err(RecordFault::BadTimes { place: self.place });
+        }
+        Ok(Record::Leg { row })
     }
-    Ok(Record::Leg { row })
-}
 
-// The record of this kind in a body; the record's mark stands at the place `at`.
-pub fn record_in<'a>(body: &'a [u8], at: usize, kind: RecordKind) -> Result<Record<'a>, RecordFault>
-    ensures { MatchResult result
-        (λ x. Pass (body_checks kind body.now) × Says kind body.now x)
-        (λ e. FirstFails (body_checks kind body.now) (record_report e).number × ((record_report e).place ≡ at)) }
-{
-    match kind {
-        RecordKind::Chart => chart_in(body, at),
-        RecordKind::Fix => fix_in(body, at),
-        RecordKind::Leg => leg_in(body, at),
-        RecordKind::End => Ok(Record::End),
+    // The record of this kind in a body.
+    pub fn record(&self, kind: RecordKind) -> Result<Record<'a>, RecordFault>
+        ensures { MatchResult result
+            (λ x. Pass (body_checks kind self.now.bytes.now) × Says kind self.now.bytes.now x)
+            (λ e. Fails (body_checks kind self.now.bytes.now) self.now.place (record_report e)) }
+    {
+        match kind {
+            RecordKind::Chart => self.chart(),
+            RecordKind::Fix => self.fix(),
+            RecordKind::Leg => self.leg(),
+            RecordKind::End => Ok(Record::End),
+        }
     }
-}
 
-// The mark and the body, with a fault of the bytes as one of the record.
-fn marked<'a>(rest: &'a [u8], at: usize) -> Result<(RecordKind, &'a [u8]), RecordFault>
-    ensures { MatchResult result
-        (λ k. (2 ≤ length rest.now) × Marked k.0 rest.now × (k.1.now ≡ body rest.now))
-        (λ e. FirstFails (mark_checks rest.now) (record_report e).number × ((record_report e).place ≡ at)) }
-{
-    Ok(opened(rest, at)?)
-}
-
-// The body of the record that begins with these bytes, where it is of the kind that is due.
-pub fn due<'a>(rest: &'a [u8], at: usize, kind: RecordKind) -> Result<&'a [u8], ChartFault>
-    ensures { MatchResult result
-        (λ b. Pass (due_checks kind rest.now) × (b.now ≡ body rest.now))
-        (λ e. FirstFails (due_checks kind rest.now) (chart_report e).number × ((chart_report e).place ≡ at)) }
-{
-    let (found, body) = marked(rest, at)?;
-    if found != kind {
-        return Err(ChartFault::OutOfPlace { place: at });
+    // The kind of the record and its body, with a fault of the bytes as one of the record.
+    fn marked(&self) -> Result<(RecordKind, Part<'a>), RecordFault>
+        ensures { MatchResult result
+            (λ k. (2 ≤ length self.now.bytes.now) × Marked k.0 self.now.bytes.now × (k.1.bytes.now ≡ body self.now.bytes.now) × (k.1.place ≡ self.now.place))
+            (λ e. Fails (mark_checks self.now.bytes.now) self.now.place (record_report e)) }
+    {
+        Ok(self.opened()?)
     }
-    Ok(body)
+
+    // The body of the record whose mark these bytes begin with, where it is of the kind that is due.
+    pub fn due(&self, kind: RecordKind) -> Result<Part<'a>, ChartFault>
+        ensures { MatchResult result
+            (λ b. Pass (due_checks kind self.now.bytes.now) × (b.bytes.now ≡ body self.now.bytes.now) × (b.place ≡ self.now.place))
+            (λ e. Fails (due_checks kind self.now.bytes.now) self.now.place (chart_report e)) }
+    {
+        let (found, body) = self.marked()?;
+        if found != kind {
+            return Err(ChartFault::OutOfPlace { place: self.place });
+        }
+        Ok(body)
+    }
 }

@@ -1,24 +1,25 @@
-use Rattle.std.proofs.Common.{◌+◌, ◌-◌, get_or, drop, sym, ◌∙◌, arith}
-use Rattle.records.specs.Checks.{byte}
+use Rattle.std.proofs.Common.{◌≡◌, length, get_or, drop, sym, ap, ◌∙◌, arith}
+use Rattle.records.specs.Checks.{body, name_in}
 use Rattle.reader.specs.Readings.{names_of}
-use Rattle.reader.proofs.NamesAt.{names_counted, name_nth, name_slice, front_by_length}
+use Rattle.reader.proofs.NamesAt.{names_length, name_nth, name_part}
 use Rattle.reader.proofs.readers.Reader.name.Goals as goal
 
-pub returns-then-fix-index : goal.returns-then-fix-index
+pub returns-in_default : goal.returns-in_default
 unfolding names_of
-returns-then-fix-index c =
+returns-in_default c =
     let r = c.args.self.now in
-    omega (arith, names_counted r.file.now r.index.starts r.index.fixes (omega (arith, r.most, r.long)), c.if-fix-index.true)
+    omega (arith, names_length r.cursor.file.now r.starts.items, ap length c.deref.ensures.0, c.in_default.ensures.lookup.3)
 
 pub returns : goal.returns
 unfolding names_of
 returns c =
     let r = c.args.self.now in
-    let k = c.args.fix in
-    let p = get_or r.index.starts k 0 in
+    let file = r.cursor.file.now in
+    let found = rw c.deref.ensures.0 at c.in-Some.ensures.lookup in
+    let start : c.in-Some.start.now ≡ get_or r.starts.items c.args.fix 0 = found.4 (omega arith) 0 in
     record {
-      place = omega (arith, r.indexed k c.if-fix-index.false);
-      there = omega (arith, names_counted r.file.now r.index.starts r.index.fixes (omega (arith, r.most, r.long)), c.if-fix-index.false);
-      text = name_slice r.file.now p ∙ sym (name_nth r.file.now r.index.starts r.index.fixes (omega (arith, r.most, r.long)) k c.if-fix-index.false);
-      part = front_by_length ((p + 3 + byte r.file.now (p + 2)) - (p + 3)) (drop (p + 3) r.file.now);
+      there = omega (arith, names_length file r.starts.items, found.3.0);
+      text = c.name_at.ensures ∙ ap (λ p. name_in (body (drop p file))) start ∙ sym (name_nth file r.starts.items c.args.fix found.3.0);
+      place = omega (arith, r.indexed c.args.fix found.3.0);
+      part = rw c.name_at.ensures (name_part file c.in-Some.start.now);
     }
