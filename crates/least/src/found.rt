@@ -1,5 +1,5 @@
 // A route that was found, by its number of legs and its regret.
-#[derive(Clone, Copy)]
+#[derive(Clone, Copy, Debug, PartialEq, Eq)]
 pub struct Found {
     pub legs: u16,
     pub regret: u32,
