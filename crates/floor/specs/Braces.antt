@@ -1,6 +1,7 @@
 -- Which legs a chain shuts, by marks, and the least time of any route where those take their low time.
-use Rattle.std.specs.Prelude.{◌≡◌, ℕ, ◌<◌, Bool, true, false, ◌⊎◌, List, length, Some, None, MatchBool, Option, ◌≢◌, slice_index_or}
+use Rattle.std.specs.Prelude.{◌≡◌, ℕ, ◌<◌, Bool, true, false, ◌⊎◌, List, Some, None, MatchBool, Option, ◌≢◌, slice_index_or}
 use Rattle.chart.specs.declared.leg.Leg.{Leg}
+use Rattle.chart.specs.Legs.{at}
 use Rattle.chart.specs.Regret.{Trip, Flies, LeastTime}
 use Rattle.chart.specs.Floors.{Shut, Braced}
 use Rattle.regret.specs.declared.walked.Walked.{Walked}
@@ -26,9 +27,9 @@ abbrev pub BracedTime : Trip → List ℕ → Option ℕ → Type 0
 BracedTime t ks None = (q : List ℕ) → Flies t q → ⊥
 BracedTime t ks (Some b) = BracedLeast t ks b
 
--- b says whether the leg k is shut by the chain that was walked along from s to find w
-abbrev pub TellsShut : List Leg → ℕ → Walked → ℕ → Bool → Type 0
-TellsShut legs s w k b = (ks : List ℕ) → Along legs s ks w → k < length legs → MatchBool b (Shut legs ks k) (Shut legs ks k → ⊥)
+-- b says whether the leg k of a chart, which is `leg`, is shut by the chain that was walked along from s to find w
+abbrev pub TellsShut : ℕ → Walked → ℕ → Leg → Bool → Type 0
+TellsShut s w k leg b = (legs : List Leg) (ks : List ℕ) → Along legs s ks w → leg ≡ at legs k → MatchBool b (Shut legs ks k) (Shut legs ks k → ⊥)
 
 -- of the legs below n, just those are marked that are not shut by the chain that was walked along from s to find w
 abbrev pub MarksUnshut : List Leg → ℕ → Walked → List Bool → ℕ → Type 0

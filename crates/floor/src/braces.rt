@@ -8,6 +8,7 @@ ghost use Rattle.floor.specs.Braces.{UsedBeside, TellsShut, MarksUnshut, BracedB
 use chart::charts::Chart;
 use chart::ends::Ends;
 use chart::kinds::Seconds;
+use chart::leg::Leg;
 use chart::limits::MAX_LEGS;
 use regret::marked::{Marked, is_marked};
 use regret::walked::Walked;
@@ -21,14 +22,11 @@ fn is_used_beside(used: &[bool], u: u16, v: u16) -> bool
     v != u && is_marked(used, v)
 }
 
-// Whether the leg `k` is shut by the chain that was walked along from the departure. Of the fixes that the chain
-// meets, it leaves all but its end, and enters all but the departure.
-fn is_shut(snapshot: &Snapshot, departure: u16, walked: &Walked, k: u16) -> bool
-    ensures { TellsShut (legs_of snapshot.now) departure walked.now k result }
+// Whether the leg, which has the number `k`, is shut by the chain that was walked along from the departure. Of the fixes
+// that the chain meets, it leaves all but its end, and enters all but the departure.
+fn is_shut(departure: u16, walked: &Walked, k: u16, leg: Leg) -> bool
+    ensures { TellsShut departure walked.now k leg result }
 {
-    let Some(leg) = snapshot.leg(k) else {
-        return false;
-    };
     !is_marked(&walked.marks, k)
         && (is_used_beside(&walked.used, walked.end, leg.from)
             || is_used_beside(&walked.used, departure, leg.to))
@@ -40,7 +38,9 @@ fn mark_unshut(snapshot: &Snapshot, departure: u16, walked: &Walked, marks: &mut
     ensures { MarksUnshut (legs_of snapshot.now) departure walked.now marks.new (length (legs_of snapshot.now)) }
 {
     for k in 0..snapshot.m() {
-        marks[k as usize] = !is_shut(snapshot, departure, walked, k);
+        marks[k as usize] = !snapshot
+            .leg(k)
+            .is_some_and(|leg| is_shut(departure, walked, k, leg));
     }
 }
 

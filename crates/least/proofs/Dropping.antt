@@ -1,6 +1,6 @@
 -- When a chain may be dropped: no route begins with it, or the best so far beats the chain with a regret that is below the
 -- regret of every route that begins with it.
-use Rattle.std.proofs.Common.{ℕ, ◌≤◌, Bool, true, false, List, Some, MatchBool, sym, subst, inl, inr, ⊎_elim, arith}
+use Rattle.std.proofs.Common.{ℕ, ◌≤◌, Bool, true, false, ◌≡◌, Bor, ◌⊎◌, List, Some, None, Option, MatchBool, MatchOption, option_copied, sym, subst, inl, inr, ⊎_elim, arith}
 use Rattle.std.proofs.lemmas.Bool.{cases_lt}
 use Rattle.chart.specs.Routes.{Before}
 use Rattle.chart.specs.Regret.{Trip, Flies, Regret, Beats}
@@ -13,9 +13,9 @@ use Rattle.least.proofs.Lexical.{before_on}
 abbrev pub BelowAll : Trip → List ℕ → ℕ → Type 0
 BelowAll t ks x = (p : List ℕ) → Flies t p → Begins ks p → (y : ℕ) → Regret t p y → x ≤ y
 
-module _ (t : Trip) (ks : List ℕ) (b : Best) (x : ℕ) where
-  beaten_all : BelowAll t ks x → Beats b.regret b.list.items x ks → Hopeless t ks (Some b)
-  beaten_all below beats q flies on y r =
+module _ (t : Trip) (ks : List ℕ) (x : ℕ) (below : BelowAll t ks x) where
+  hopeless_beaten : (b : Best) → Beats b.regret b.list.items x ks → Hopeless t ks (Some b)
+  hopeless_beaten b beats q flies on y r =
       let le = below q flies on y r in
       inr
       (⊎_elim
@@ -27,6 +27,14 @@ module _ (t : Trip) (ks : List ℕ) (b : Best) (x : ℕ) where
       (cases_lt b.regret y))
       beats)
 
-  pub hopeless_beaten : (r : Bool) (N : Type 0) → MatchBool r (Beats b.regret b.list.items x ks) N → BelowAll t ks x → MatchBool r (Hopeless t ks (Some b)) (Unit {0})
-  hopeless_beaten true N w below = beaten_all below w
-  hopeless_beaten false N w below = tt
+  -- a test that answers false where there is no best
+  pub hopeless_told : (o : Option (Bor Best)) (best : Option Best) → option_copied o ≡ best → (r : Bool) (P : Bor Best → Type 0) → MatchOption o (r ≡ false) P → ((b : Bor Best) → P b → MatchBool r (Beats b.now.regret b.now.list.items x ks) ((ks ≡ b.now.list.items) ⊎ Beats x ks b.now.regret b.now.list.items)) → MatchBool r (Hopeless t ks best) (Unit {0})
+  hopeless_told o best e r P w h = subst (λ k. MatchBool r (Hopeless t ks k) (Unit {0})) e (by_ref o w)
+    where
+      weaker : (r : Bool) (b : Best) (N : Type 0) → MatchBool r (Beats b.regret b.list.items x ks) N → MatchBool r (Hopeless t ks (Some b)) (Unit {0})
+      weaker true b N v = hopeless_beaten b v
+      weaker false b N v = tt
+
+      by_ref : (o : Option (Bor Best)) → MatchOption o (r ≡ false) P → MatchBool r (Hopeless t ks (option_copied o)) (Unit {0})
+      by_ref None v = rw v tt
+      by_ref (Some b) q = weaker r b.now _ (h b q)

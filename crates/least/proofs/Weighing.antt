@@ -1,15 +1,21 @@
 -- One list weighed against the best so far.
-use Rattle.std.proofs.Common.{◌≡◌, ℕ, ◌⊎◌, List, Some, None, Option, sym, ◌∙◌, subst, subst₂, inl, inr, ⊎_elim}
+use Rattle.std.proofs.Common.{◌≡◌, ℕ, Bool, true, Bor, MatchBool, MatchOption, option_copied, ◌⊎◌, List, Some, None, Option, sym, ◌∙◌, subst, subst₂, inl, inr, ⊎_elim}
 use Rattle.chart.specs.Regret.{Trip, Flies, Regret, Beats}
 use Rattle.regret.proofs.Worsts.{regret_is_unique}
 use Rattle.least.specs.declared.sweep.Best.{Best}
-use Rattle.least.specs.Sweeps.{Sound, Covers, Better, NoBetter, Swept, Only}
+use Rattle.least.specs.Sweeps.{Sound, Covers, Swept, Only}
 use Rattle.least.proofs.Lexical.{beats_trans}
 use Rattle.least.proofs.Sweeping.{swept_none}
 
--- what is no route cannot replace anything
-pub weigh_none : (t : Trip) (p : List ℕ) → (Flies t p → ⊥) → (best : Option Best) → Sound t best → Swept t best best (Only p)
-weigh_none t p n best s = swept_none s (λ q flies o. absurd (n (subst (λ l. Flies t l) o flies)))
+-- p, of the regret x, is better than the best
+abbrev pub Better : ℕ → List ℕ → Option Best → Type 0
+Better x p None = Unit {0}
+Better x p (Some b) = Beats x p b.regret b.list.items
+
+-- p, of the regret x, is the best or worse
+abbrev pub NoBetter : ℕ → List ℕ → Option Best → Type 0
+NoBetter x p None = ⊥
+NoBetter x p (Some b) = (b.list.items ≡ p) ⊎ Beats b.regret b.list.items x p
 
 module _ (t : Trip) (p : List ℕ) (x : ℕ) (flies : Flies t p) (regret : Regret t p x) where
   covers_new : (best : Option Best) → Sound t best → Better x p best → (q : List ℕ) → Covers t best q → (y : ℕ) → Regret t q y → (p ≡ q) ⊎ Beats x p y q
@@ -35,3 +41,11 @@ module _ (t : Trip) (p : List ℕ) (x : ℕ) (flies : Flies t p) (regret : Regre
   weigh_worse (Some h) s n = swept_none s (λ q _ o y r.
       let e = regret_is_unique t p x y regret (subst (λ l. Regret t l y) o r) in
       subst₂ (λ z l. (h.list.items ≡ l) ⊎ Beats h.regret h.list.items z l) e (sym o) n)
+
+-- a test that answers true where there is no best
+pub better_told : (x : ℕ) (p : List ℕ) (o : Option (Bor Best)) (best : Option Best) → option_copied o ≡ best → (r : Bool) (P : Bor Best → Type 0) → MatchOption o (r ≡ true) P → ((b : Bor Best) → P b → MatchBool r (Beats x p b.now.regret b.now.list.items) ((b.now.list.items ≡ p) ⊎ Beats b.now.regret b.now.list.items x p)) → MatchBool r (Better x p best) (NoBetter x p best)
+better_told x p o best e r P w h = subst (λ k. MatchBool r (Better x p k) (NoBetter x p k)) e (by_ref o w)
+  where
+    by_ref : (o : Option (Bor Best)) → MatchOption o (r ≡ true) P → MatchBool r (Better x p (option_copied o)) (NoBetter x p (option_copied o))
+    by_ref None t = rw t tt
+    by_ref (Some b) q = h b q

@@ -27,16 +27,6 @@ abbrev pub Covers : Trip → Option Best → List ℕ → Type 0
 Covers t None q = ⊥
 Covers t (Some b) q = (y : ℕ) → Regret t q y → (b.list.items ≡ q) ⊎ Beats b.regret b.list.items y q
 
--- p, of the regret x, is better than the best
-abbrev pub Better : ℕ → List ℕ → Option Best → Type 0
-Better x p None = Unit {0}
-Better x p (Some b) = Beats x p b.regret b.list.items
-
--- p, of the regret x, is the best or worse
-abbrev pub NoBetter : ℕ → List ℕ → Option Best → Type 0
-NoBetter x p None = ⊥
-NoBetter x p (Some b) = (b.list.items ≡ p) ⊎ Beats b.regret b.list.items x p
-
 -- from the one best to the other: it is still sound, covers what it covered, and every route in S
 pub record Swept (t : Trip) (best best' : Option Best) (S : List ℕ → Type 0) : Type 0 where
   pub sound : Sound t best'

@@ -1,5 +1,6 @@
-// A route that was found, by its number of legs and its regret.
-#[derive(Clone, Copy)]
+// A route that was found: how many of the first places of the memory its legs take, and its regret. The memory is lent,
+// since a call takes none of its own.
+#[derive(Clone, Copy, Debug, PartialEq, Eq)]
 pub struct Found {
     pub legs: u16,
     pub regret: u32,

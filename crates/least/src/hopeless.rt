@@ -17,10 +17,10 @@ impl<'a> Sweep<'a> {
         match floor_on(self.snapshot, self.ends, list) {
             Err(FloorRefusal::NoRoute) => true,
             Err(FloorRefusal::NotAChain) => false,
-            Ok(floor) => match &self.best {
-                None => false,
-                Some(best) => best.rank() < (floor, list),
-            },
+            Ok(floor) => self
+                .best
+                .as_ref()
+                .is_some_and(|best| best.rank() < (floor, list)),
         }
     }
 }

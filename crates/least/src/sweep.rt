@@ -22,8 +22,7 @@ impl Best {
     }
 }
 
-// The search stands at the end of a chain, with a flag for each fix that the chain meets. A snapshot is behind a
-// reference, since it is large.
+// The search stands at the end of a chain. A flag for each fix that the chain meets is a set that takes no memory of its own.
 #[derive(Drop)]
 pub(crate) struct Sweep<'a> {
     pub(crate) snapshot: &'a Snapshot,

@@ -1,22 +1,13 @@
 use Rattle.std.proofs.Common.{sym, arith}
-use Rattle.search.specs.Snapshots.{legs_of}
-use Rattle.chart.proofs.Numbers.{numbered_is, numbered_not}
 use Rattle.floor.proofs.Shutting.{shut_by_left, shut_by_entered}
 use Rattle.floor.proofs.braces.is_shut.Goals as goal
 
-pub returns-in_default : goal.returns-in_default
-returns-in_default c ks along lt = absurd (numbered_not (legs_of c.args.snapshot.now) c.args.k lt (sym c.in_default.ensures))
-
 pub returns-then-is_used_beside : goal.returns-then-is_used_beside
-returns-then-is_used_beside c ks along lt =
-    let legs = legs_of c.args.snapshot.now in
-    let is = numbered_is legs c.args.k c.in-Some.leg lt c.in-Some.ensures in
-    let shut = shut_by_left legs c.args.departure ks c.args.walked.now along c.args.k c.in-Some.leg is (sym c.if-not-is_marked.ensures) _ _ (omega arith) (omega arith) c.if-is_used_beside.ensures in
+returns-then-is_used_beside c legs ks along is =
+    let shut = shut_by_left legs c.args.departure ks c.args.walked.now along c.args.k c.args.leg is (sym c.if-not-is_marked.ensures) _ _ (omega arith) (omega arith) c.if-is_used_beside.ensures in
     rw c.if-is_used_beside.true shut
 
 pub returns-else-is_used_beside : goal.returns-else-is_used_beside
-returns-else-is_used_beside c ks along lt =
-    let legs = legs_of c.args.snapshot.now in
-    let is = numbered_is legs c.args.k c.in-Some.leg lt c.in-Some.ensures in
+returns-else-is_used_beside c legs ks along is =
     let again = c.is_used_beside-else-is_used_beside in
-    shut_by_entered legs c.args.departure ks c.args.walked.now along c.args.k c.in-Some.leg is (sym c.if-not-is_marked.ensures) _ _ (omega arith) (omega arith) c.if-is_used_beside.ensures _ _ (omega arith) (omega arith) again.result again.ensures
+    shut_by_entered legs c.args.departure ks c.args.walked.now along c.args.k c.args.leg is (sym c.if-not-is_marked.ensures) _ _ (omega arith) (omega arith) c.if-is_used_beside.ensures _ _ (omega arith) (omega arith) again.result again.ensures

@@ -1,6 +1,9 @@
-use Rattle.std.proofs.Common.{◌<◌, length, arith}
+use Rattle.std.proofs.Common.{◌<◌, length, refl, arith, rules}
+use Rattle.chart.specs.Legs.{at}
 use Rattle.search.specs.Snapshots.{legs_of}
 use Rattle.search.specs.Sound.{snapshot_charted}
+use Rattle.chart.proofs.Numbers.{numbered_there}
+use Rattle.floor.specs.Braces.{TellsShut}
 use Rattle.floor.proofs.Shutting.{unshut_again}
 use Rattle.floor.proofs.braces.mark_unshut.Goals as goal
 
@@ -10,8 +13,12 @@ bounds-marks-k c = omega (arith, c.requires, c.loop-k.auto.marks, (snapshot_char
 pub loop-k-preserved : goal.loop-k-preserved
 loop-k-preserved c ks along =
     let s = c.args.snapshot.now in
-    let lt : c.loop-k.k < length c.loop-k.marks = omega (arith, c.requires, c.loop-k.auto.marks, (snapshot_charted s).few) in
-    unshut_again (legs_of s) ks c.loop-k.marks c.loop-k.k c.is_shut.result lt (c.loop-k.invariant ks along) (c.is_shut.ensures ks along (omega arith))
+    let k = c.loop-k.k-counter in
+    let lt : k < length c.loop-k.marks = omega (arith, c.requires, c.loop-k.auto.marks, (snapshot_charted s).few) in
+    let there = numbered_there (legs_of s) k (omega arith) in
+    let post = rw (c.leg.ensures, there) at c.is_some_and.ensures in
+    let tells : TellsShut c.args.departure c.args.walked.now k (at (legs_of s) k) c.is_some_and.result = search rules in
+    unshut_again (legs_of s) ks c.loop-k.marks k c.is_some_and.result lt (c.loop-k.invariant ks along) (tells (legs_of s) ks along refl)
 
 pub returns : goal.returns
 returns c ks along k lt = c.loop-k.invariant ks along k (omega arith)
