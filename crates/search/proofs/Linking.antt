@@ -57,7 +57,7 @@ module _ (legs : List Leg) (k : ℕ) (first next : List (Option ℕ)) (lt : k < 
       }
 
 -- the leg k of a row is linked, as the code reads it
-module _ (row : List Linked) (count k : ℕ) (first : List (Option ℕ)) (d : Linked) (fair : Fair row count) (lt : k < count) where
+module _ {row : List Linked} {count k : ℕ} (d : Linked) (fair : Fair row count) (lt : k < count) where
   length_nexts : length (nexts row) ≡ max_legs
   length_nexts = length-map row (λ (l : Linked). l.next) ∙ fair.whole
 
@@ -67,11 +67,11 @@ module _ (row : List Linked) (count k : ℕ) (first : List (Option ℕ)) (d : Li
   read : at (taken count row) k ≡ (get_or row k d).leg
   read = taken_at count row k d lt (omega (arith, fair.whole, fair.filled))
 
-  pub leaves_in_first : length first ≡ max_fixes → (get_or row k d).leg.from < length first
-  leaves_in_first e = let l = fair.leaves k lt in subst (λ (x : Leg). x.from < length first) read (omega arith)
+  pub leaves_in_first : (first : List (Option ℕ)) → length first ≡ max_fixes → (get_or row k d).leg.from < length first
+  leaves_in_first first e = let l = fair.leaves k lt in subst (λ (x : Leg). x.from < length first) read (omega arith)
 
-  pub linked_more : Chained (taken count row) (k + 1) first (nexts row) → Chained (taken count row) k (set first (get_or row k d).leg.from (Some k)) (nexts (set row k (record { leg = (get_or row k d).leg; next = get_or first (get_or row k d).leg.from None })))
-  linked_more c =
+  pub linked_more : {first : List (Option ℕ)} → Chained (taken count row) (k + 1) first (nexts row) → Chained (taken count row) k (set first (get_or row k d).leg.from (Some k)) (nexts (set row k (record { leg = (get_or row k d).leg; next = get_or first (get_or row k d).leg.from None })))
+  linked_more {first} c =
       let n = taken_length count row fair.whole fair.filled in
       let more = chained_more (taken count row) k first (nexts row) (omega arith) (fair.leaves k lt) (omega (arith, length_nexts, fair.filled)) c in
       let put = map-set (λ (l : Linked). l.next) row k (record { leg = (get_or row k d).leg; next = get_or first (get_or row k d).leg.from None }) in

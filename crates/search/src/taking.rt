@@ -11,7 +11,7 @@ use chart::leg::Leg;
 use chart::limits::{MAX_FIXES, MAX_LEGS};
 use chart::row::Standing;
 
-// Copies every leg. The loop counts, since a chart answers by the number of a leg.
+// Copies every leg. The loop counts, since a chart gives a leg by its number.
 fn copy_legs<C: Chart>(chart: &C, row: &mut [Linked])
     requires { length row.old ≡ max_legs }
     ensures { taken (length (C.legs chart.now)) row.new ≡ C.legs chart.now }
@@ -31,15 +31,13 @@ fn link(row: &mut [Linked], first: &mut [Option<u16>], k: u16, count: u16)
     ensures chained { Chained (taken count row.old) k first.new (nexts row.new) }
 {
     let leg = row[k as usize].leg;
-    let from = leg.from as usize;
-    row[k as usize] = Linked {
-        leg,
-        next: first[from],
-    };
-    first[from] = Some(k);
+    let head = &mut first[leg.from as usize];
+    row[k as usize] = Linked { leg, next: *head };
+    *head = Some(k);
 }
 
-// Links every leg. From the last to the first, a fix's first leg so far is the next of the new one.
+// Links every leg. From the last to the first, a fix's first leg so far is the next of the new one. The loop
+// counts, since what is stored is the number of a leg.
 fn link_legs(row: &mut [Linked], first: &mut [Option<u16>], count: u16)
     requires fair { Fair row.old count }
     requires none { first.old ≡ replicate max_fixes None }
