@@ -25,7 +25,7 @@ ends q j = (at q.legs j).to
 abbrev pub onward : {T : Type 0} → Quest T → List T → ℕ → ℕ → T
 onward q label u j = q.rule.add (label_in q label u) j (at q.legs j)
 
-module _ {T : Type 0} (q : Quest T) (laws : Laws q.rule) (label : List T) (mark : List Mark) (u j : ℕ) (turn : Turn q label mark u j) where
+module _ {T : Type 0} {q : Quest T} (laws : Laws q.rule) {label : List T} {mark : List Mark} {u j : ℕ} (turn : Turn q label mark u j) where
   pub known_u : Known mark u
   known_u b = settled_blank _ turn.here b
 
@@ -88,7 +88,7 @@ module _ {T : Type 0} (q : Quest T) (laws : Laws q.rule) (label : List T) (mark 
   turn_holds k o = turn_stays (λ _. record { known = k; good = o })
 
 -- the fix at the end of the leg j takes the total over it
-module _ {T : Type 0} (q : Quest T) (laws : Laws q.rule) (label : List T) (mark : List Mark) (u j : ℕ) (turn : Turn q label mark u j)
+module _ {T : Type 0} {q : Quest T} (laws : Laws q.rule) {label : List T} {mark : List Mark} {u j : ℕ} (turn : Turn q label mark u j)
     (charted : Charted q.fixes q.legs) (leaves : Leaves q.legs u j) (undone : Done mark (ends q j) → ⊥)
     (better : Known mark (ends q j) → q.rule.order (onward q label u j) (label_in q label (ends q j))) where
   inside : ends q j < q.fixes
@@ -126,7 +126,7 @@ module _ {T : Type 0} (q : Quest T) (laws : Laws q.rule) (label : List T) (mark 
 
   new_way : Way q (set label (ends q j) (onward q label u j)) (set mark (ends q j) Reached) (ends q j)
   new_way =
-      let way = turn.state.ways u (known_u q laws label mark u j turn) in
+      let way = turn.state.ways u (known_u laws turn) in
       let new : In (ends q j) (met q.legs q.departure way.by) → ⊥ = λ i. undone (way.through (ends q j) i (λ e. apart (sym e))) in
       let long = length_push way.by j in
       let same = done_same mark (ends q j) in_mark undone in
@@ -184,7 +184,7 @@ module _ {T : Type 0} (q : Quest T) (laws : Laws q.rule) (label : List T) (mark 
               (λ ne. subst (λ a. q.rule.order (label_in q label x) a) (sym (label_other y ne))
               (s.ahead x y (back x d).0 (was_known y ne h) (λ dy. nd (stays_done y dy))))
               (cases_eq y (ends q j)));
-          eased = eased_more q laws label mark u j turn label' mark'
+          eased = eased_more laws turn label' mark'
               (λ x k l d h.
               let old = s.eased x k l (back x d).0 h in
               record {
@@ -205,11 +205,11 @@ module _ {T : Type 0} (q : Quest T) (laws : Laws q.rule) (label : List T) (mark 
   takes_done_same = done_same mark (ends q j) in_mark undone
 
 -- what is left of a leg that was offered: the turn goes on, and as many fixes are settled as before
-module _ {T : Type 0} (q : Quest T) (laws : Laws q.rule) (label : List T) (mark : List Mark) (u j : ℕ) (turn : Turn q label mark u j)
+module _ {T : Type 0} {q : Quest T} (laws : Laws q.rule) {label : List T} {mark : List Mark} {u j : ℕ} (turn : Turn q label mark u j)
     (charted : Charted q.fixes q.legs) (leaves : Leaves q.legs u j) (undone : Done mark (ends q j) → ⊥) where
-  pub turn_offered : (label' : List T) (mark' : List Mark) → Offered q.rule label mark (ends q j) (onward q label u j) label' mark' → Turn q label' mark' u (j + 1) × (done mark' ≡ done mark)
-  turn_offered label' mark' (took el em better) =
+  pub turn_offered : {label' : List T} {mark' : List Mark} → Offered q.rule label mark (ends q j) (onward q label u j) label' mark' → Turn q label' mark' u (j + 1) × (done mark' ≡ done mark)
+  turn_offered (took el em better) =
       subst₂ (λ l n. Turn q l n u (j + 1) × (done n ≡ done mark)) (sym el) (sym em)
-      (turn_takes q laws label mark u j turn charted leaves undone better, takes_done_same q laws label mark u j turn charted leaves undone better)
-  turn_offered label' mark' (held el em known o) =
-      subst₂ (λ l n. Turn q l n u (j + 1) × (done n ≡ done mark)) (sym el) (sym em) (turn_holds q laws label mark u j turn known o, refl)
+      (turn_takes laws turn charted leaves undone better, takes_done_same laws turn charted leaves undone better)
+  turn_offered (held el em known o) =
+      subst₂ (λ l n. Turn q l n u (j + 1) × (done n ≡ done mark)) (sym el) (sym em) (turn_holds laws turn known o, refl)

@@ -59,7 +59,7 @@ module _ {T : Type 0} (q : Quest T) (laws : Laws q.rule) (charted : Charted q.fi
       }
 
 -- after the last step no fix is reached and not settled
-module _ {T : Type 0} (q : Quest T) (laws : Laws q.rule) (label : List T) (mark : List Mark) (rest : Rest q label mark) (over : (w : ℕ) → w < q.fixes → mark_at mark w ≡ Reached → ⊥) where
+module _ {T : Type 0} {q : Quest T} (laws : Laws q.rule) {label : List T} {mark : List Mark} (rest : Rest q label mark) (over : (w : ℕ) → w < q.fixes → mark_at mark w ≡ Reached → ⊥) where
   settled : (v : ℕ) → Known mark v → Done mark v
   settled v h = only_settled (mark_at mark v) h (over v (rest.within v h))
 

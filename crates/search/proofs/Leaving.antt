@@ -6,6 +6,7 @@ use Rattle.std.proofs.lemmas.Bool.{cases_eq, cases_lt, eq-eqb}
 use Rattle.std.proofs.lemmas.Bool.Decides.{nat_tests}
 use Rattle.chart.specs.declared.leg.Leg.{Leg}
 use Rattle.chart.specs.Legs.{at}
+use Rattle.chart.specs.Limits.{max_fixes}
 use Rattle.search.specs.declared.linked.Linked.{Linked}
 use Rattle.search.specs.declared.snapshot.Snapshot.{Snapshot}
 use Rattle.search.specs.Index.{FirstLeg, leaving, left_from}
@@ -22,6 +23,13 @@ module _ (s : Snapshot) where
   pub snapshot_at : (k : ℕ) (d : Linked) → k < s.count → (get_or s.legs k d).leg ≡ at (legs_of s) k
   unfolding legs_of
   snapshot_at k d h = sym (taken_at s.count s.legs k d h (omega (arith, s.whole, s.filled)))
+
+  -- a leg leads to a fix that a chart can have
+  pub leads_to_fix : {k : ℕ} {leg : Leg} → k < length (legs_of s) → leg ≡ at (legs_of s) k → leg.to < max_fixes
+  leads_to_fix {k} lt is =
+      let c = snapshot_charted s in
+      let e = ap (λ (l : Leg). l.to) is in
+      omega (arith, c.enters k lt, c.most)
 
   pub snapshot_first : (v : ℕ) → v < fixes_of s → FirstLeg (legs_of s) v 0 (get_or s.first v None)
   unfolding legs_of
@@ -97,8 +105,8 @@ module _ (legs : List Leg) (v : ℕ) where
   leaving_found low = let f = first_found (length legs) low (omega arith) in (f.0, f.1, leaving_first low f.0 f.1)
 
   -- what a first item, or none, says
-  pub leaving_ends : (low : ℕ) → leaving legs v low ≡ [] → FirstLeg legs v low None
-  leaving_ends low e = let f = leaving_found low in none_left f.0 f.1 (f.2 ∙ e)
+  pub leaving_ends : {low : ℕ} → leaving legs v low ≡ [] → FirstLeg legs v low None
+  leaving_ends {low} e = let f = leaving_found low in none_left f.0 f.1 (f.2 ∙ e)
     where
       none_left : (r : Option ℕ) → FirstLeg legs v low r → left_from legs r ≡ [] → FirstLeg legs v low None
       none_left None f e = f
@@ -106,8 +114,8 @@ module _ (legs : List Leg) (v : ℕ) where
           let z : j ∷ leaving legs v (j + 1) ≡ [] = sym (leaving_takes j f.there f.leaves) ∙ ap (λ w. leaving legs w j) (sym f.leaves) ∙ e in
           absurd (let y : ◌≡◌ {A = ℕ} 0 1 = cc in omega arith)
 
-  pub leaving_goes_on : (low j : ℕ) (rest : List ℕ) → leaving legs v low ≡ j ∷ rest → FirstLeg legs v low (Some j) × (rest ≡ leaving legs v (j + 1))
-  leaving_goes_on low j rest e = let f = leaving_found low in some_left f.0 f.1 (f.2 ∙ e)
+  pub leaving_goes_on : {low j : ℕ} {rest : List ℕ} → leaving legs v low ≡ j ∷ rest → FirstLeg legs v low (Some j) × (rest ≡ leaving legs v (j + 1))
+  leaving_goes_on {low} {j} {rest} e = let f = leaving_found low in some_left f.0 f.1 (f.2 ∙ e)
     where
       some_left : (r : Option ℕ) → FirstLeg legs v low r → left_from legs r ≡ j ∷ rest → FirstLeg legs v low (Some j) × (rest ≡ leaving legs v (j + 1))
       some_left None f e = absurd (let y : ◌≡◌ {A = ℕ} 0 1 = cc in omega arith)

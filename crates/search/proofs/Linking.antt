@@ -57,26 +57,43 @@ module _ (legs : List Leg) (k : ℕ) (first next : List (Option ℕ)) (lt : k < 
       }
 
 -- the leg k of a row is linked, as the code reads it
-module _ (row : List Linked) (count k : ℕ) (first : List (Option ℕ)) (d : Linked) (fair : Fair row count) (lt : k < count) where
+module _ {row : List Linked} {count k : ℕ} (d : Linked) (fair : Fair row count) (lt : k < count) where
   length_nexts : length (nexts row) ≡ max_legs
   length_nexts = length-map row (λ (l : Linked). l.next) ∙ fair.whole
 
-  pub linked_same : (next : Option ℕ) → taken count (set row k (record { leg = (get_or row k d).leg; next = next })) ≡ taken count row
+  linked_same : (next : Option ℕ) → taken count (set row k (record { leg = (get_or row k d).leg; next = next })) ≡ taken count row
   linked_same next = ap (λ ls. take count ls) (map-set_same (λ (l : Linked). l.leg) row k (record { leg = (get_or row k d).leg; next = next }) d refl)
 
   read : at (taken count row) k ≡ (get_or row k d).leg
   read = taken_at count row k d lt (omega (arith, fair.whole, fair.filled))
 
-  pub leaves_in_first : length first ≡ max_fixes → (get_or row k d).leg.from < length first
-  leaves_in_first e = let l = fair.leaves k lt in subst (λ (x : Leg). x.from < length first) read (omega arith)
+  pub leaves_in_first : (first : List (Option ℕ)) → length first ≡ max_fixes → (get_or row k d).leg.from < length first
+  leaves_in_first first e = let l = fair.leaves k lt in subst (λ (x : Leg). x.from < length first) read (omega arith)
 
-  pub linked_more : Chained (taken count row) (k + 1) first (nexts row) → Chained (taken count row) k (set first (get_or row k d).leg.from (Some k)) (nexts (set row k (record { leg = (get_or row k d).leg; next = get_or first (get_or row k d).leg.from None })))
-  linked_more c =
+  linked_more : {first : List (Option ℕ)} → Chained (taken count row) (k + 1) first (nexts row) → Chained (taken count row) k (set first (get_or row k d).leg.from (Some k)) (nexts (set row k (record { leg = (get_or row k d).leg; next = get_or first (get_or row k d).leg.from None })))
+  linked_more {first} c =
       let n = taken_length count row fair.whole fair.filled in
       let more = chained_more (taken count row) k first (nexts row) (omega arith) (fair.leaves k lt) (omega (arith, length_nexts, fair.filled)) c in
       let put = map-set (λ (l : Linked). l.next) row k (record { leg = (get_or row k d).leg; next = get_or first (get_or row k d).leg.from None }) in
       subst (λ ns. Chained (taken count row) k (set first (get_or row k d).leg.from (Some k)) ns) (sym put)
       (subst (λ (x : Leg). Chained (taken count row) k (set first x.from (Some k)) (set (nexts row) k (get_or first x.from None))) read more)
+
+  fair_still : (next : Option ℕ) → Fair (set row k (record { leg = (get_or row k d).leg; next = next })) count
+  fair_still next = record {
+    whole = length-set row k (record { leg = (get_or row k d).leg; next = next }) ∙ fair.whole;
+    filled = fair.filled;
+    leaves = subst (λ legs. (i : ℕ) → i < count → (at legs i).from < max_fixes) (sym (linked_same next)) fair.leaves;
+  }
+
+  -- the row after the turn of the leg k: with the same legs, and linked from k on
+  pub linked_turn : {first : List (Option ℕ)} → Chained (taken count row) (k + 1) first (nexts row) →
+      let head = get_or first (get_or row k d).leg.from None in
+      let row' = set row k (record { leg = (get_or row k d).leg; next = head }) in
+      (taken count row' ≡ taken count row) × Fair row' count × Chained (taken count row') k (set first (get_or row k d).leg.from (Some k)) (nexts row')
+  linked_turn {first} c =
+      let head = get_or first (get_or row k d).leg.from None in
+      let row' = set row k (record { leg = (get_or row k d).leg; next = head }) in
+      (linked_same head, fair_still head, subst (λ legs. Chained legs k (set first (get_or row k d).leg.from (Some k)) (nexts row')) (sym (linked_same head)) (linked_more c))
 
 pub copied_more : (legs : List Leg) (row : List Linked) (k : ℕ) (new : Linked) → length row ≡ max_legs → length legs ≤ max_legs → k < length legs → new.leg ≡ at legs k → taken k row ≡ take k legs → taken (k + 1) (set row k new) ≡ take (k + 1) legs
 unfolding at

@@ -10,7 +10,7 @@ use Rattle.search.specs.Labels.{label_at, Known, Done, Pick}
 use Rattle.search.specs.State.{Quest, Rest, Turn}
 use Rattle.search.proofs.Marks.{as_good_as_itself, reached_settled, reached_blank, settled_blank, only_reached, known_small, mark_here, mark_other, done_on, known_on, known_back, done_more}
 
-module _ {T : Type 0} (q : Quest T) (laws : Laws q.rule) (label : List T) (mark : List Mark) (rest : Rest q label mark) (u : ℕ) (pick : Pick q.rule label mark q.fixes u) where
+module _ {T : Type 0} {q : Quest T} (laws : Laws q.rule) {label : List T} {mark : List Mark} (rest : Rest q label mark) {u : ℕ} (pick : Pick q.rule label mark q.fixes u) where
   undone : Done mark u → ⊥
   undone = reached_settled _ pick.reached
 
@@ -75,10 +75,10 @@ module _ {T : Type 0} (q : Quest T) (laws : Laws q.rule) (label : List T) (mark 
             (cases_eq x u);
       }
 
--- where the legs of u from i on begin with the leg j, or there are none
-module _ {T : Type 0} (q : Quest T) (label : List T) (mark : List Mark) (u i j : ℕ) (turn : Turn q label mark u i) where
-  turn_skips : ((k : ℕ) → i ≤ k → k < j → k < length q.legs → (at q.legs k).from ≡ u → ⊥) → Turn q label mark u j
-  turn_skips gap = record {
+-- the search goes on to the first leg of u from i on, or past the last
+module _ {T : Type 0} {q : Quest T} {label : List T} {mark : List Mark} {u i : ℕ} (turn : Turn q label mark u i) where
+  turn_skips : (j : ℕ) → ((k : ℕ) → i ≤ k → k < j → k < length q.legs → (at q.legs k).from ≡ u → ⊥) → Turn q label mark u j
+  turn_skips j gap = record {
     state = record {
       labels = turn.state.labels;
       marks = turn.state.marks;
@@ -99,15 +99,15 @@ module _ {T : Type 0} (q : Quest T) (label : List T) (mark : List Mark) (u i j :
     last = turn.last;
   }
 
-  pub turn_goes_on : FirstLeg q.legs u i (Some j) → Turn q label mark u j
-  turn_goes_on low = turn_skips (λ k a b c e. low.gap k a b e)
+  pub turn_goes_on : {j : ℕ} → FirstLeg q.legs u i (Some j) → Turn q label mark u j
+  turn_goes_on {j} first = turn_skips j (λ k a b c e. first.gap k a b e)
 
-  pub turn_goes_past : FirstLeg q.legs u i None → j ≡ length q.legs → Turn q label mark u j
-  turn_goes_past none e = turn_skips (λ k a b c f. none k a c f)
+  pub turn_goes_past : FirstLeg q.legs u i None → Turn q label mark u (length q.legs)
+  turn_goes_past none = turn_skips (length q.legs) (λ k a b c e. none k a c e)
 
 -- once its legs are eased, u is a settled fix like any other
-pub turn_ends : {T : Type 0} (q : Quest T) (label : List T) (mark : List Mark) (u : ℕ) → Turn q label mark u (length q.legs) → Rest q label mark
-turn_ends q label mark u turn =
+pub turn_ends : {T : Type 0} {q : Quest T} {label : List T} {mark : List Mark} {u : ℕ} → Turn q label mark u (length q.legs) → Rest q label mark
+turn_ends turn =
     let s = turn.state in
     record {
       labels = s.labels;

@@ -8,11 +8,7 @@ pub returns-clause-steps : goal.returns-clause-steps
 returns-clause-steps c =
     let legs = legs_of c.self.inside.snapshot.now in
     let there = subst (IsLeg legs) c.in_ok-k.was c.self.invariant in
-    sym c.self.view_is ∙ ap (λ r. left_from legs r) c.in_ok-k.was ∙ left_turn legs c.in_ok-k.k c.next_leg-self-inside.result there c.next_leg-self-inside.ensures
+    sym c.self.view_is ∙ ap (left_from legs) c.in_ok-k.was ∙ left_turn legs c.in_ok-k.k c.next_leg-self-inside.result there c.next_leg-self-inside.ensures
 
 pub returns-clause-goes : goal.returns-clause-goes
-returns-clause-goes c =
-    let legs = legs_of c.self.inside.snapshot.now in
-    let there = subst (IsLeg legs) c.in_ok-k.was c.self.invariant in
-    let e = sym c.self.view_is ∙ ap (λ r. left_from legs r) c.in_ok-k.was ∙ left_turn legs c.in_ok-k.k c.next_leg-self-inside.result there c.next_leg-self-inside.ensures in
-    search rules
+returns-clause-goes c = let steps = returns-clause-steps c in search rules
