@@ -1,6 +1,6 @@
 // The built-in task; and a longer one, which begins with a script over the files that the program carries, and goes on with
 // routes on the chart of one of them.
-use super::carried::{Carried, carried};
+use super::carried::{CarriedFiles, carried};
 use super::file_routes::show_file;
 use super::grids::show_lattices;
 use super::scripts::answer;
@@ -28,7 +28,7 @@ pub fn show_task(rt: &HostRuntime) -> anyhow::Result<()> {
 }
 
 pub fn show_carried(rt: &HostRuntime) -> anyhow::Result<()> {
-    let mut session = Session::new(rt.alloc(), Carried);
+    let mut session = Session::new(rt.alloc(), CarriedFiles);
     for line in SCRIPT {
         println!(rt; "> {line}")?;
         answer(rt, &mut session, line)?;

@@ -29,9 +29,9 @@ pub fn carried(path: &str) -> Option<&'static [u8]> {
 
 // Paths lead to the files that the program carries.
 #[derive(Clone, Copy)]
-pub struct Carried;
+pub struct CarriedFiles;
 
-impl Files for Carried {
+impl Files for CarriedFiles {
     fn fetch(&self, rt: &HostRuntime, path: &str) -> Result<Option<Vec<u8>>, AllocError> {
         match carried(path) {
             Some(bytes) => Ok(Some(Vec::from_slice(rt.alloc(), bytes)?)),

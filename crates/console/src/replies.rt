@@ -5,8 +5,7 @@ use chart::kinds::{Kind, Level, Quickest};
 use chart::refusals::Refusal;
 use least::refusals::RouteRefusal;
 use search::best::best;
-use std::fmt;
-use std::io;
+use std::{fmt, io};
 
 // That a command is refused: the number of the refusal, and what it says in words.
 #[derive(Clone, Copy)]
@@ -32,7 +31,11 @@ pub struct Size<'a> {
 
 impl fmt::Display for Size<'_> {
     fn fmt<W: fmt::Write>(&self, f: &mut fmt::Formatter<W>) -> fmt::Result {
-        write!(f, "{} {} fixes {} legs", self.command, self.fixes, self.legs)
+        write!(
+            f,
+            "{} {} fixes {} legs",
+            self.command, self.fixes, self.legs
+        )
     }
 }
 

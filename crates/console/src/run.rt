@@ -8,9 +8,9 @@ use std::{env, fs};
 
 // Paths lead to the files below the working folder.
 #[derive(Clone, Copy)]
-pub struct Folder;
+pub struct FolderFiles;
 
-impl Files for Folder {
+impl Files for FolderFiles {
     fn fetch(&self, rt: &HostRuntime, path: &str) -> Result<Option<Vec<u8>>, AllocError> {
         Ok(fs::read(rt, path).ok())
     }
@@ -22,10 +22,10 @@ pub fn run(rt: &HostRuntime) -> anyhow::Result<()> {
     let Some(script) = args.next() else {
         return show_task(rt);
     };
-    let mut session = Session::new(rt.alloc(), Folder);
+    let mut session = Session::new(rt.alloc(), FolderFiles);
     if script.as_str() == "-" {
-        return follow(rt, &mut session, &mut rt.stdin().lock());
+        return follow(rt, &mut session, rt.stdin().lock());
     }
     let file = fs::open(rt, script.as_str())?;
-    follow(rt, &mut session, &mut BufReader::new(rt.alloc(), file)?)
+    follow(rt, &mut session, BufReader::new(rt.alloc(), file)?)
 }

@@ -17,18 +17,14 @@ pub fn answer<F: Files>(
 }
 
 // Every line of the input, to its end.
-pub fn follow<F: Files, R: BufRead>(
+pub fn follow<F: Files, R: BufRead + Drop>(
     rt: &HostRuntime,
     session: &mut Session<F>,
-    input: &mut R,
+    input: R,
 ) -> anyhow::Result<()> {
     let heap = rt.alloc();
-    for _ in 0..u64::MAX {
-        let mut bytes = Vec::new(heap);
-        if input.read_until(b'\n', &mut bytes)? == 0 {
-            break;
-        }
-        let line = String::from_utf8_lossy(heap, bytes.as_slice())?;
+    for bytes in input.split(heap, b'\n') {
+        let line = String::from_utf8_lossy(heap, bytes?.as_slice())?;
         answer(rt, session, line.as_str())?;
     }
     Ok(())

@@ -36,12 +36,21 @@ impl fmt::Display for Reply<'_> {
                 let command = "chart";
                 let fixes = counts.fixes;
                 let legs = counts.legs;
-                Size { command, fixes, legs }.fmt(f)
+                Size {
+                    command,
+                    fixes,
+                    legs,
+                }
+                .fmt(f)
             }
             Reply::Fault(fault) => {
                 let report = fault.report();
                 let number = report.number;
-                write!(f, "chart fault {number} {} {}: {fault}", report.layer, report.place)
+                write!(
+                    f,
+                    "chart fault {number} {} {}: {fault}",
+                    report.layer, report.place
+                )
             }
             Reply::Unreadable { path } => write!(f, "chart unreadable {path}"),
             Reply::Name { text, place } => write!(f, "name {text} at {place}"),

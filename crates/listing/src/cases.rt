@@ -16,7 +16,7 @@ pub struct Case {
     pub closed: &'static [usize],
 }
 
-static FOUR_FIXES: [Plain; 5] = [
+const FOUR_FIXES: [Plain; 5] = [
     (0, 1, 300, 400),
     (1, 3, 300, 500),
     (0, 2, 200, 600),
@@ -24,13 +24,13 @@ static FOUR_FIXES: [Plain; 5] = [
     (1, 2, 50, 100),
 ];
 
-static TWO_FIXES: [Plain; 1] = [(0, 1, 10, 20)];
+const TWO_FIXES: [Plain; 1] = [(0, 1, 10, 20)];
 
-static PARALLEL: [Plain; 4] = [(0, 1, 10, 90), (0, 1, 40, 50), (1, 2, 5, 5), (1, 2, 0, 10)];
+const PARALLEL: [Plain; 4] = [(0, 1, 10, 90), (0, 1, 40, 50), (1, 2, 5, 5), (1, 2, 0, 10)];
 
-static ALL_ZERO: [Plain; 4] = [(0, 1, 0, 0), (1, 2, 0, 0), (0, 2, 0, 0), (2, 1, 0, 0)];
+const ALL_ZERO: [Plain; 4] = [(0, 1, 0, 0), (1, 2, 0, 0), (0, 2, 0, 0), (2, 1, 0, 0)];
 
-static TIES: [Plain; 6] = [
+const TIES: [Plain; 6] = [
     (0, 2, 10, 30),
     (0, 1, 10, 30),
     (1, 3, 10, 30),
@@ -39,7 +39,7 @@ static TIES: [Plain; 6] = [
     (0, 3, 20, 60),
 ];
 
-static BACK_AND_FORTH: [Plain; 7] = [
+const BACK_AND_FORTH: [Plain; 7] = [
     (1, 0, 5, 9),
     (3, 1, 5, 9),
     (0, 1, 10, 80),
@@ -49,7 +49,7 @@ static BACK_AND_FORTH: [Plain; 7] = [
     (2, 3, 30, 35),
 ];
 
-static DEAD_ENDS: [Plain; 6] = [
+const DEAD_ENDS: [Plain; 6] = [
     (0, 1, 1, 2),
     (1, 2, 1, 2),
     (0, 3, 50, 90),
@@ -58,9 +58,9 @@ static DEAD_ENDS: [Plain; 6] = [
     (2, 1, 1, 1),
 ];
 
-static UNREACHABLE: [Plain; 3] = [(0, 1, 1, 2), (2, 3, 1, 2), (1, 0, 1, 2)];
+const UNREACHABLE: [Plain; 3] = [(0, 1, 1, 2), (2, 3, 1, 2), (1, 0, 1, 2)];
 
-static DENSE: [Plain; 10] = [
+const DENSE: [Plain; 10] = [
     (0, 1, 10, 60),
     (0, 2, 20, 40),
     (1, 2, 5, 30),
@@ -74,7 +74,7 @@ static DENSE: [Plain; 10] = [
 ];
 
 // A later, longer list of less regret after an earlier one.
-static LATER_IS_BETTER: [Plain; 6] = [
+const LATER_IS_BETTER: [Plain; 6] = [
     (0, 3, 0, 100),
     (0, 1, 10, 12),
     (1, 2, 10, 12),

@@ -93,7 +93,7 @@ pub fn show(rt: &HostRuntime, case: &Case) -> anyhow::Result<()> {
         }
     };
     let chains = all_chains(rt.alloc(), &table, ends.from)?;
-    let routes = chains
+    let routes: Vec<&Chain> = chains
         .iter()
         .filter(|chain| chain.is_route_to(ends.to))
         .collect(rt.alloc())?;
