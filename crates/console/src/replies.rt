@@ -4,6 +4,7 @@ use chart::ends::Ends;
 use chart::kinds::{Kind, Level, Quickest};
 use chart::refusals::Refusal;
 use least::refusals::RouteRefusal;
+use reader::counts::Counts;
 use search::best::best;
 use std::{fmt, io};
 
@@ -25,17 +26,13 @@ impl<R: Refusal> fmt::Display for Refused<'_, R> {
 #[derive(Clone, Copy)]
 pub struct Size<'a> {
     pub command: &'a str,
-    pub fixes: u16,
-    pub legs: u16,
+    pub counts: Counts,
 }
 
 impl fmt::Display for Size<'_> {
     fn fmt<W: fmt::Write>(&self, f: &mut fmt::Formatter<W>) -> fmt::Result {
-        write!(
-            f,
-            "{} {} fixes {} legs",
-            self.command, self.fixes, self.legs
-        )
+        let Counts { fixes, legs } = self.counts;
+        write!(f, "{} {fixes} fixes {legs} legs", self.command)
     }
 }
 
@@ -45,11 +42,11 @@ pub fn show_refusal<R: Refusal>(rt: &HostRuntime, command: &str, refusal: R) -> 
 }
 
 pub fn show_chart<C: Chart>(rt: &HostRuntime, command: &str, chart: &C) -> io::Result<()> {
-    let size = Size {
-        command,
+    let counts = Counts {
         fixes: chart.n(),
         legs: chart.m(),
     };
+    let size = Size { command, counts };
     println!(rt; "{size}")
 }
 

@@ -34,14 +34,8 @@ impl fmt::Display for Reply<'_> {
         match self {
             Reply::Chart(counts) => {
                 let command = "chart";
-                let fixes = counts.fixes;
-                let legs = counts.legs;
-                Size {
-                    command,
-                    fixes,
-                    legs,
-                }
-                .fmt(f)
+                let counts = *counts;
+                Size { command, counts }.fmt(f)
             }
             Reply::Fault(fault) => {
                 let report = fault.report();

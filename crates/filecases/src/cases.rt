@@ -1,13 +1,8 @@
 // A case: a sound file, what is done to it and at which of its records, and the verdict on it then.
 use super::files::File;
 use super::verdicts::Verdict;
+use reader::counts::Counts;
 use std::alloc::AllocError;
-
-#[derive(Clone, Copy, Debug)]
-pub struct Shape {
-    pub fixes: u16,
-    pub legs: u16,
-}
 
 #[derive(Clone, Copy, Debug)]
 pub enum Spot {
@@ -46,7 +41,7 @@ pub enum Damage {
 #[derive(Clone, Copy, Debug)]
 pub struct Case {
     pub verdict: Verdict,
-    pub shape: Shape,
+    pub shape: Counts,
     pub spot: Spot,
     pub damage: Damage,
 }

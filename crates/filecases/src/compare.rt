@@ -4,6 +4,7 @@ use super::files::*;
 use chart::refusals::Refusal;
 use chart::row::*;
 use chart::table::Table;
+use reader::counts::Counts;
 use reader::readers::Reader;
 use records::faults::Fault;
 use std::alloc::{AllocError, Global};
@@ -49,7 +50,7 @@ fn has_names(reader: &Reader<'_>, fixes: u16, file: &File) -> bool {
 }
 
 // Whether a table takes the legs.
-fn has_table(reader: &Reader<'_>, memory: &[Row], shape: Shape) -> bool {
+fn has_table(reader: &Reader<'_>, memory: &[Row], shape: Counts) -> bool {
     let Some(rows) = memory.get(0..shape.legs as usize) else {
         return false;
     };
@@ -67,8 +68,7 @@ pub fn is_as_expected(heap: Global, case: &Case) -> Result<bool, AllocError> {
     let answer = reader.read_file(memory.as_mut_slice());
     let is_well = match (answer, case.verdict.report(place)) {
         (Ok(counts), None) => {
-            counts.fixes == case.shape.fixes
-                && counts.legs == case.shape.legs
+            counts == case.shape
                 && reader.cursor.place == file.bytes.len()
                 && holds(&memory, &file.rows)
                 && has_names(&reader, counts.fixes, &file)

@@ -1,6 +1,6 @@
 // Files of charts, written without any code of the reader.
-use super::cases::Shape;
 use chart::row::*;
+use reader::counts::Counts;
 use std::alloc::{AllocError, Global};
 
 // The bytes of a file, the places of its records and of its end, and its legs.
@@ -57,7 +57,7 @@ fn leg_bytes(row: &Row) -> [u8; 14] {
 }
 
 // The sound file of a shape.
-pub fn file_of(heap: Global, shape: Shape) -> Result<File, AllocError> {
+pub fn file_of(heap: Global, shape: Counts) -> Result<File, AllocError> {
     let mut file = File {
         bytes: Vec::new(heap),
         places: Vec::new(heap),

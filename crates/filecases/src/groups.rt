@@ -5,24 +5,25 @@ use super::cases::*;
 use super::compare::is_as_expected;
 use super::verdicts::Verdict;
 use super::verdicts::Verdict::*;
+use reader::counts::Counts;
 use std::alloc::{AllocError, Global};
 
 // The damage at every spot of every shape, and the verdict on the file after it.
 #[derive(Clone, Copy)]
-struct Group(Verdict, &'static [Shape], &'static [Spot], Damage);
+struct Group(Verdict, &'static [Counts], &'static [Spot], Damage);
 
-const LEAST: Shape = Shape { fixes: 2, legs: 0 };
+const LEAST: Counts = Counts { fixes: 2, legs: 0 };
 
-const SMALL: Shape = Shape { fixes: 8, legs: 5 };
+const SMALL: Counts = Counts { fixes: 8, legs: 5 };
 
-const MOST: Shape = Shape {
+const MOST: Counts = Counts {
     fixes: 200,
     legs: 1000,
 };
 
-const ALL: [Shape; 3] = [LEAST, SMALL, MOST];
+const ALL: [Counts; 3] = [LEAST, SMALL, MOST];
 
-const BOTH: [Shape; 2] = [SMALL, MOST];
+const BOTH: [Counts; 2] = [SMALL, MOST];
 
 const MARKED: [Spot; 4] = [Chart, MiddleFix, MiddleLeg, End];
 

@@ -131,7 +131,7 @@ module _ {s : Sweep} {here : ℕ} (ready : Ready s here) where
 
     pub turns_again : (k : ℕ) (rest : List ℕ) → left ≡ k ∷ rest → (s₂ : Sweep) → Swept (trip_of s₁) s₁.best s₂.best (GoesOn s₁.chain.items k) → s₂ ≡ record s₁ { best = s₂.best } → Turns s here s₂ rest
     turns_again k rest is s₂ turn stands =
-        let next = leaving_goes_on t.legs here turns.low k rest (sym turns.others ∙ is) in
+        let next = leaving_goes_on t.legs here (sym turns.others ∙ is) in
         let turn' : Swept t s₁.best s₂.best (GoesOn ks k) = subst (λ (x : Sweep). Swept (trip_of x) s₁.best s₂.best (GoesOn x.chain.items k)) turns.stands turn in
         let both = swept_both (swept_past turns.low k (λ j a b there from. next.0.gap j a b from) turns.swept) turn' (λ q flies g.
         let lt = g.1 in
@@ -143,5 +143,5 @@ module _ {s : Sweep} {here : ℕ} (ready : Ready s here) where
 
     pub turns_end : (here ≡ s.ends.to → ⊥) → left ≡ [] → Swept (trip_of s) s.best s₁.best (Begins s.chain.items)
     turns_end ne is =
-        let none = leaving_ends t.legs here turns.low (sym turns.others ∙ is) in
+        let none = leaving_ends t.legs here (sym turns.others ∙ is) in
         swept_of (swept_past turns.low (length t.legs) (λ k ge lt there from. none k ge there from) turns.swept) (λ q flies b. goes_on ne q flies b.0 b.1)
