@@ -61,7 +61,14 @@ fn fill_rows(rows: &mut [Row]) {
 // The sum of the seconds and legs of many answers.
 fn sum_of_bests<C: Chart>(chart: &C) -> u64 {
     (0..CALLS)
-        .filter_map(|i| best(chart, &Quickest, Ends { from: i % 10, to: 199 }))
+        .filter_map(|i| best(
+            chart,
+            &Quickest,
+            Ends {
+                from: i % 10,
+                to: 199,
+            },
+        ))
         .fold(0u64, |sum, flown| {
             sum.saturating_add(u64::from(flown.seconds) + u64::from(flown.legs))
         })
