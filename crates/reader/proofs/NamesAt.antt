@@ -1,6 +1,7 @@
 -- The names at the places of their records, one by one.
-use Rattle.std.proofs.Common.{◌≡◌, ℕ, zero, suc, ◌+◌, ◌<◌, List, [], ◌∷◌, ◌++◌, length, get_or, take, drop, sym, refl, ap, ◌∙◌, arith}
-use Rattle.std.proofs.lemmas.List.{drop-drop, take_at, take-append-drop}
+use Rattle.std.proofs.Common.{◌≡◌, ℕ, zero, suc, ◌+◌, ◌<◌, List, [], ◌∷◌, ◌++◌, length, get_or, take, drop, refl, ap, ◌∙◌, arith}
+use Rattle.std.proofs.lemmas.List.{drop-drop}
+use Rattle.std.proofs.lemmas.Grind.{common_steps}
 use Rattle.records.specs.Format.{name_at}
 use Rattle.records.specs.Checks.{byte, body, name_in}
 use Rattle.reader.specs.Places.{names_at}
@@ -20,7 +21,7 @@ name_nth file (p ∷ ps) (suc i) h = name_nth file ps i (omega arith)
 
 -- a front of a list is as much of it as it has items
 front_by_length : (k : ℕ) (xs : List ℕ) → take k xs ≡ take (length (take k xs)) xs
-front_by_length k xs = sym (take_at (take k xs) (drop k xs) (length (take k xs)) refl) ∙ ap (take (length (take k xs))) (take-append-drop k xs)
+front_by_length k xs = grind (arith, common_steps)
 
 -- a name is the part of the file after its record's mark and its length
 pub name_part : (file : List ℕ) (p : ℕ) → name_in (body (drop p file)) ≡ take (length (name_in (body (drop p file)))) (drop (p + 2 + 1) file)

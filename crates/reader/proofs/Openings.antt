@@ -1,8 +1,8 @@
 -- One record more at the beginning of a file: a record that passes its checks is its bytes, and the file then begins with it too.
-use Rattle.std.proofs.Common.{◌≡◌, ℕ, ◌+◌, ◌<◌, ◌≤◌, List, [], ◌∷◌, ◌++◌, length, get_or, take, drop, sym, refl, ap, ◌∙◌, subst, ⊎_elim, append_assoc, arith, length-append, length-drop}
+use Rattle.std.proofs.Common.{◌≡◌, ℕ, ◌+◌, ◌<◌, ◌≤◌, List, [], ◌∷◌, ◌++◌, length, get_or, take, drop, sym, refl, ap, ◌∙◌, append_assoc, arith, length-append, length-drop}
+use Rattle.std.proofs.lemmas.Grind.{common_steps}
 use Rattle.std.specs.List.{flat_map}
-use Rattle.std.proofs.lemmas.List.{flat_map_more, take-append-drop, drop-drop, length_push, get_or_push, get_or_append_left, length-take-le, append-nil}
-use Rattle.std.proofs.lemmas.Bool.{cases_eq}
+use Rattle.std.proofs.lemmas.List.{flat_map_more, take-append-drop, drop-drop, length_push, length-take-le, append-nil}
 use Rattle.chart.specs.declared.row.Row.{Row}
 use Rattle.chart.specs.declared.row.Standing.TheVariants.{Open}
 use Rattle.chart.specs.Rows.{Sound, no_row}
@@ -43,12 +43,7 @@ name_length b h = length-take-le (byte b 0) (drop 1 b) (let e = length-drop 1 b 
 
 -- what holds of all items of a list, and of one more
 pub push_all : {A : Type 0} (P : A → Type 0) (d : A) (xs : List A) (x : A) → ((k : ℕ) → k < length xs → P (get_or xs k d)) → P x → (k : ℕ) → k < length (xs ++ x ∷ []) → P (get_or (xs ++ x ∷ []) k d)
-push_all P d xs x old new k h =
-    let long = length_push xs x in
-    ⊎_elim
-    (λ e. subst P (sym (get_or_push xs x d k (sym e))) new)
-    (λ ne. let b : k < length xs = omega arith in subst P (sym (get_or_append_left xs (x ∷ []) d k b)) (old k b))
-    (cases_eq k (length xs))
+push_all P d xs x old new k h = grind (arith, common_steps, old k)
 
 lawful_fix : (n m : ℕ) (names : List Name) (name : Name) → Lawful n m names [] → length names < n → Named name → Fresh names name → Lawful n m (names ++ name ∷ []) []
 lawful_fix n m names name l room named fresh =
@@ -58,13 +53,7 @@ lawful_fix n m names name l room named fresh =
       names_fit = omega arith;
       legs_fit = l.legs_fit;
       named = push_all Named [] names name l.named named;
-      once = λ i j a h same. ⊎_elim
-          (λ e. let b : i < length names = omega arith in fresh i b (sym (get_or_append_left names (name ∷ []) [] i b) ∙ same ∙ get_or_push names name [] j (sym e)))
-          (λ ne.
-          let b : j < length names = omega arith in
-          let d : i < length names = omega arith in
-          l.once i j a b (sym (get_or_append_left names (name ∷ []) [] i d) ∙ same ∙ get_or_append_left names (name ∷ []) [] j b))
-          (cases_eq j (length names));
+      once = λ i j a h same. grind (arith, common_steps, fresh i, l.once i j);
       sound = l.sound;
       stands = l.stands;
     }
@@ -82,9 +71,9 @@ lawful_leg n m names legs leg l room sound stands =
       stands = push_all (λ r. r.standing ≡ Open) no_row legs leg l.stands stands;
     }
 
-pub begins_fix : (file : List ℕ) (p n m : ℕ) (names : List Name) → Begins file p n m names [] (drop p file) → length names < n → Pass (fix_checks names (drop p file)) →
+pub begins_fix : {file : List ℕ} {p n m : ℕ} {names : List Name} → Begins file p n m names [] (drop p file) → length names < n → Pass (fix_checks names (drop p file)) →
     Begins file (p + (3 + byte (body (drop p file)) 0)) n m (names ++ name_in (body (drop p file)) ∷ []) [] (drop (p + (3 + byte (body (drop p file)) 0)) file)
-begins_fix file p n m names b room pass =
+begins_fix {file} {p} {n} {m} {names} b room pass =
     let name = name_in (body (drop p file)) in
     let size = 3 + byte (body (drop p file)) 0 in
     let len = name_length (body (drop p file)) pass.1.1.1.0.1 in
@@ -102,9 +91,9 @@ begins_fix file p n m names b room pass =
           ∙ ap (λ x. opening n m (names ++ name ∷ []) [] ++ x) (drop-drop size p file);
     }
 
-pub begins_leg : (file : List ℕ) (p n m : ℕ) (names : List Name) (legs : List Row) → AllBytes (drop p file) → Begins file p n m names legs (drop p file) → length legs < m → Pass (leg_checks n (drop p file)) →
+pub begins_leg : {file : List ℕ} {p n m : ℕ} {names : List Name} {legs : List Row} → AllBytes (drop p file) → Begins file p n m names legs (drop p file) → length legs < m → Pass (leg_checks n (drop p file)) →
     Begins file (p + 14) n m names (legs ++ leg_in (body (drop p file)) ∷ []) (drop (p + 14) file)
-begins_leg file p n m names legs small b room pass =
+begins_leg {file} {p} {n} {m} {names} {legs} small b room pass =
     let leg = leg_in (body (drop p file)) in
     let push = opening_leg n m names legs leg in
     let la = length-append (opening n m names legs) (leg_bytes leg) in

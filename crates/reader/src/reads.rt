@@ -18,6 +18,7 @@ use records::sizes::MARK_BYTES;
 
 impl<'a> Reader<'a> {
     // A reader at the beginning of a file, which has accepted nothing yet.
+    #[tactic(auto, unfolding(crate::specs::Readings::names_of))]
     pub fn new(file: &'a [u8]) -> Reader<'a>
         ensures over { result.cursor.file.now ≡ file.now }
         ensures at_its_beginning { result.cursor.place ≡ 0 }
@@ -30,6 +31,7 @@ impl<'a> Reader<'a> {
     }
 
     // Reads the file from its beginning, and puts its legs into the first places of memory.
+    #[tactic(auto, using(records::proofs::Once::sole))]
     pub fn read_file(&mut self, memory: &mut [Row]) -> Result<Counts, ChartFault>
         ensures same_file { self.new.cursor.file.now ≡ self.old.cursor.file.now }
         ensures reads_the_chart_or_tells_the_fault { MatchResult result
@@ -45,6 +47,7 @@ impl<'a> Reader<'a> {
     }
 
     // The name of a fix of the accepted file.
+    #[tactic(auto, using(crate::proofs::NamesAt::names_length), unfolding(crate::specs::Readings::names_of))]
     pub fn name(&self, fix: u16) -> Result<FixName<'a>, NoSuchFix>
         ensures { MatchResult result
             (λ name. Names self.now.cursor.file.now (names_of self.now) fix name)

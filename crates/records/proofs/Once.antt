@@ -3,7 +3,6 @@
 use Rattle.std.proofs.Common.{◌≡◌, ℕ, ◌+◌, ◌≤◌, ◌⊎◌, List, length, sym, refl, ap, ◌∙◌, subst, inl, inr, arith}
 use Rattle.chart.specs.declared.row.Row.{Row}
 use Rattle.records.specs.declared.faults.Layer.{Layer}
-use Rattle.records.specs.declared.faults.Layer.TheVariants as layer
 use Rattle.records.specs.declared.faults.Report.{Report}
 use Rattle.records.specs.Format.{Name, Means, end_bytes}
 use Rattle.records.specs.Checks.{FirstFails, Pass, chart_checks}
@@ -53,22 +52,10 @@ means_never_fails means fits (late fits' v) =
 
 -- a fault has one layer
 layers_same : (a b : Layer) (x : ℕ) → Finds a x → Finds b x → a ≡ b
-layers_same layer.Bytes layer.Bytes x f g = refl
-layers_same layer.Bytes layer.Record x f g = absurd (omega arith)
-layers_same layer.Bytes layer.Chart x f g = absurd (omega arith)
-layers_same layer.Record layer.Bytes x f g = absurd (omega arith)
-layers_same layer.Record layer.Record x f g = refl
-layers_same layer.Record layer.Chart x f g = absurd (omega arith)
-layers_same layer.Chart layer.Bytes x f g = absurd (omega arith)
-layers_same layer.Chart layer.Record x f g = absurd (omega arith)
-layers_same layer.Chart layer.Chart x f g = refl
-
-report : ℕ → Layer → ℕ → Report
-report x a p = record { number = x; layer = a; place = p }
+layers_same a b x f g = grind arith
 
 reports_same : (r s : Report) → r.number ≡ s.number → r.layer ≡ s.layer → r.place ≡ s.place → r ≡ s
-unfolding report
-reports_same r s e f g = ap (λ x. report x r.layer r.place) e ∙ ap (λ a. report s.number a r.place) f ∙ ap (λ p. report s.number s.layer p) g
+reports_same r s e f g = grind arith
 
 pub sole : (file : List ℕ) (room : ℕ) → Sole file room
 sole file room = record {

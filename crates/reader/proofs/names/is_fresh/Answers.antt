@@ -1,7 +1,8 @@
-use Rattle.std.proofs.Common.{sym, refl, ◌∙◌, arith, below_more}
-use Rattle.std.proofs.lemmas.Slice.Eq.{slice_eq-Decides}
+use Rattle.std.proofs.Common.{sym, ◌∙◌, arith, below_more}
 use Rattle.std.proofs.lemmas.Bool.{false≢true, both_ways}
 use Rattle.std.proofs.lemmas.Bool.Decides.{Decides-eqb}
+use Rattle.std.proofs.lemmas.Grind.{common_steps}
+use Rattle.std.proofs.lemmas.Slice.Eq.{slice_eq-Decides}
 use Rattle.reader.proofs.NamesAt.{names_length, name_nth}
 use Rattle.reader.proofs.names.is_fresh.Goals as goal
 
@@ -17,6 +18,4 @@ loop-at-preserved c =
     below_more _ _ c.loop-at.invariant (λ e. both_ways c.eq.result c.if-eq.false (d.1 (c.name_at.ensures ∙ sym (name_nth c.args.file.now c.args.starts.now c.loop-at.at-index c.loop-at-test.true) ∙ e)))
 
 pub returns : goal.returns
-returns c =
-    let n = names_length c.args.file.now c.args.starts.now in
-    (λ _ k h. c.loop-at.invariant k (omega arith), λ _. refl)
+returns c = grind (arith, common_steps, names_length)

@@ -1,14 +1,12 @@
 use Rattle.std.proofs.Common.{◌≤◌, sym, refl, subst}
-use Rattle.records.specs.Checks.{body, legs_in}
 use Rattle.reader.proofs.Carrying.{carried}
 use Rattle.reader.proofs.Stages.{naming_none, legging_first}
 use Rattle.reader.proofs.cursor.Cursor.check_file.Goals as goal
 
 pub read_fixes-requires : goal.read_fixes-requires
 read_fixes-requires c =
-    let file = c.args.self.now.file.now in
     let h = c.in_ok-counts.ensures.reads in
-    rw c.read_chart.ensures.same_file (naming_none file c.args.room c.in_ok-counts.counts.fixes (legs_in (body file)) c.read_chart.new.self.place c.args.self.now.of_bytes h.0 h.1 refl h.3)
+    rw c.read_chart.ensures.same_file (naming_none c.args.self.now.file.now c.args.room c.args.self.now.of_bytes h.0 h.1 refl h.3)
 
 pub returns-in_err-starts-clause-reads : goal.returns-in_err-starts-clause-reads
 returns-in_err-starts-clause-reads c =
@@ -18,21 +16,19 @@ returns-in_err-starts-clause-reads c =
 
 pub returns-in_err-read_legs_to_end-clause-reads : goal.returns-in_err-read_legs_to_end-clause-reads
 returns-in_err-read_legs_to_end-clause-reads c =
-    let file = c.args.self.now.file.now in
     let h = c.in_ok-counts.ensures.reads in
     let r = rw c.read_chart.ensures.same_file at c.in_ok-starts.ensures.reads in
     let e = rw (c.read_fixes.ensures.same_file, c.read_chart.ensures.same_file) at c.in_err-read_legs_to_end.ensures.reads in
-    let s = e _ (legging_first file c.read_fixes.new.self.place c.in_ok-counts.counts.fixes c.in_ok-counts.counts.legs c.in_ok-starts.starts.items h.2 r.1 r.0) in
+    let s = e _ (legging_first h.2 r.1 r.0) in
     carried c.from_residual-in_err-read_legs_to_end.result _ _ c.from_residual-in_err-read_legs_to_end.ensures.1 (s.owed c.args.room (subst (λ x. x ≤ c.args.room) (sym h.2) h.0.1.1.1.1.1.0), s.there)
 
 pub returns-clause-reads : goal.returns-clause-reads
 returns-clause-reads c =
-    let file = c.args.self.now.file.now in
     let h = c.in_ok-counts.ensures.reads in
     let r = rw c.read_chart.ensures.same_file at c.in_ok-starts.ensures.reads in
     let e = rw (c.read_fixes.ensures.same_file, c.read_chart.ensures.same_file) at c.in_ok-read_legs_to_end.ensures.reads in (
       record {
-        means = e.means _ (legging_first file c.read_fixes.new.self.place c.in_ok-counts.counts.fixes c.in_ok-counts.counts.legs c.in_ok-starts.starts.items h.2 r.1 r.0);
+        means = e.means _ (legging_first h.2 r.1 r.0);
         most = r.0.begins.lawful.counted.most;
         whole = r.1;
         stand = r.0.stand;

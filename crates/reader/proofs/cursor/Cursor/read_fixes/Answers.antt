@@ -1,5 +1,4 @@
 use Rattle.std.proofs.Common.{◌∙◌, arith}
-use Rattle.records.specs.Checks.{body, legs_in}
 use Rattle.reader.proofs.Carrying.{carried}
 use Rattle.reader.proofs.Stages.{naming_more, stops_at_fix}
 use Rattle.reader.proofs.cursor.Cursor.read_fixes.Goals as goal
@@ -8,13 +7,13 @@ pub returns-in_err-read_fix-clause-reads : goal.returns-in_err-read_fix-clause-r
 returns-in_err-read_fix-clause-reads c =
     let h = rw (c.loop.invariant.same_file, c.as_slice.ensures.value) at c.in_err-read_fix.ensures.reads in
     carried c.from_residual.result _ _ c.from_residual.ensures.1
-    (stops_at_fix c.args.self.now.file.now c.loop.self.place c.args.fixes (legs_in (body c.args.self.now.file.now)) c.loop.starts.items c.loop.invariant.naming (omega (arith, c.loop.invariant.count)) _ _ h)
+    (stops_at_fix c.loop.invariant.naming (omega (arith, c.loop.invariant.count)) h)
 
 pub loop-preserved : goal.loop-preserved
 loop-preserved c =
     let h = rw (c.loop.invariant.same_file, c.as_slice.ensures.value) at c.in_ok-read_fix.ensures.reads in
     record {
       same_file = c.read_fix.ensures.same_file ∙ c.loop.invariant.same_file;
-      naming = rw c.push.ensures.items (naming_more c.args.self.now.file.now c.loop.self.place c.args.fixes (legs_in (body c.args.self.now.file.now)) c.loop.starts.items c.loop.invariant.naming (omega (arith, c.loop.invariant.count)) c.read_fix.new.self.place h.0 h.1);
+      naming = rw c.push.ensures.items (naming_more c.loop.invariant.naming (omega (arith, c.loop.invariant.count)) h.0 h.1);
       count = omega (arith, c.push.ensures.len, c.loop.invariant.count);
     }

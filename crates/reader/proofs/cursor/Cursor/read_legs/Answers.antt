@@ -7,7 +7,7 @@ pub returns-in_err-read_leg-clause-reads : goal.returns-in_err-read_leg-clause-r
 returns-in_err-read_leg-clause-reads c =
     let h = rw c.loop.invariant.same_file at c.in_err-read_leg.ensures.reads in
     carried c.from_residual.result _ _ c.from_residual.ensures.1
-    (λ names l. stops_at_leg c.args.self.now.file.now c.loop.self.place c.args.counts.fixes c.args.counts.legs names c.args.self.now.place c.loop.counter (c.loop.invariant.along.legging names l) c.loop-test.true _ _ h)
+    (λ names l. stops_at_leg (c.loop.invariant.along.legging names l) c.loop-test.true h)
 
 pub loop-preserved : goal.loop-preserved
 loop-preserved c =
@@ -21,6 +21,6 @@ loop-preserved c =
       along = record {
         inside = omega (arith, h.1, h.0.1.1.1.0);
         along = omega (arith, h.1, a.along);
-        legging = λ names l. legging_more file c.loop.self.place c.args.counts.fixes c.args.counts.legs names c.args.self.now.place c.loop.counter (a.legging names l) c.loop-test.true c.read_leg.new.self.place (rw c.loop.invariant.same_file at c.loop.self.of_bytes) h.0 h.1;
+        legging = λ names l. legging_more (a.legging names l) c.loop-test.true (rw c.loop.invariant.same_file at c.loop.self.of_bytes) h.0 h.1;
       };
     }

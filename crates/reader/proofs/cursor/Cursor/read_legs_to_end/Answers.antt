@@ -7,13 +7,13 @@ pub returns-in_err-read_end-clause-reads : goal.returns-in_err-read_end-clause-r
 returns-in_err-read_end-clause-reads c =
     let h = rw c.read_legs.ensures.same_file at c.in_err-read_end.ensures.reads in
     carried c.from_residual-in_err-read_end.result _ _ c.from_residual-in_err-read_end.ensures.1
-    (λ names l. stops_at_end c.args.self.now.file.now c.read_legs.new.self.place c.args.counts.fixes c.args.counts.legs names c.args.self.now.place (c.in_ok-read_legs.ensures.reads.legging names l) _ _ h)
+    (λ names l. stops_at_end (c.in_ok-read_legs.ensures.reads.legging names l) h)
 
 pub returns-then-place-self-clause-reads : goal.returns-then-place-self-clause-reads
 returns-then-place-self-clause-reads c names l =
     let h = rw c.read_legs.ensures.same_file at c.in_ok-read_end.ensures.reads in
     let long : length c.read_end.new.self.file.now ≡ length c.args.self.now.file.now = ap (λ f. length f.now) (c.read_end.ensures.same_file ∙ c.read_legs.ensures.same_file) in
-    stops_after_end c.args.self.now.file.now c.read_legs.new.self.place c.args.counts.fixes c.args.counts.legs names c.args.self.now.place (c.in_ok-read_legs.ensures.reads.legging names l) c.read_end.new.self.place h.1 h.0 (omega (arith, c.if-place-self.true))
+    stops_after_end (c.in_ok-read_legs.ensures.reads.legging names l) h.1 h.0 (omega (arith, c.if-place-self.true))
 
 pub returns-clause-reads : goal.returns-clause-reads
 returns-clause-reads c =
@@ -22,7 +22,7 @@ returns-clause-reads c =
     let long : length c.read_end.new.self.file.now ≡ length c.args.self.now.file.now = ap (λ f. length f.now) (c.read_end.ensures.same_file ∙ c.read_legs.ensures.same_file) in
     let dl = length-drop c.read_legs.new.self.place c.args.self.now.file.now in
     record {
-      means = λ names l. read_whole c.args.self.now.file.now c.read_legs.new.self.place c.args.counts.fixes c.args.counts.legs names c.args.self.now.place (a.legging names l) c.read_end.new.self.place h.1 h.0 (omega (arith, c.if-place-self.false));
+      means = λ names l. read_whole (a.legging names l) h.1 h.0 (omega (arith, c.if-place-self.false));
       within = omega (arith, a.inside, a.along);
       end = omega (arith, h.1, h.0.0, a.inside, c.if-place-self.false);
     }

@@ -1,14 +1,8 @@
-use Rattle.std.proofs.Common.{◌≡◌, length, get_or, drop, sym, ap, ◌∙◌, arith}
+use Rattle.std.proofs.Common.{◌≡◌, get_or, drop, sym, ap, ◌∙◌, arith}
 use Rattle.records.specs.Checks.{body, name_in}
 use Rattle.reader.specs.Readings.{names_of}
 use Rattle.reader.proofs.NamesAt.{names_length, name_nth, name_part}
 use Rattle.reader.proofs.readers.Reader.name.Goals as goal
-
-pub returns-in_default : goal.returns-in_default
-unfolding names_of
-returns-in_default c =
-    let r = c.args.self.now in
-    omega (arith, names_length r.cursor.file.now r.starts.items, ap length c.deref.ensures.0, c.in_default.ensures.lookup.3)
 
 pub returns : goal.returns
 unfolding names_of

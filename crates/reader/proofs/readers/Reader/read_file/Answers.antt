@@ -1,5 +1,4 @@
 use Rattle.std.proofs.Common.{◌++◌, drop, sym, refl, ap, ◌∙◌, arith}
-use Rattle.records.proofs.Once.{sole}
 use Rattle.reader.specs.Readings.{names_of}
 use Rattle.reader.specs.Places.{legs_at}
 use Rattle.reader.proofs.Carrying.{carried}
@@ -7,18 +6,14 @@ use Rattle.reader.proofs.NamesAt.{names_length}
 use Rattle.reader.proofs.Stages.{legs_length}
 use Rattle.reader.proofs.readers.Reader.read_file.Goals as goal
 
-pub returns-in_err-found : goal.returns-in_err-found
-returns-in_err-found c =
+pub returns-in_err-found-clause-reads_the_chart_or_tells_the_fault : goal.returns-in_err-found-clause-reads_the_chart_or_tells_the_fault
+returns-in_err-found-clause-reads_the_chart_or_tells_the_fault c =
     let h = c.in_err-found.ensures.reads in
-    record {
-      same_file = ap (λ f. f.now) c.check_file.ensures.same_file;
-      reads_the_chart_or_tells_the_fault = carried c.from_residual.result _ _ c.from_residual.ensures.1 (h.0, h.1, refl, refl);
-      one_verdict = sole _ _;
-    }
+    carried c.from_residual.result _ _ c.from_residual.ensures.1 (h.0, h.1, refl, refl)
 
-pub returns : goal.returns
+pub returns-clause-reads_the_chart_or_tells_the_fault : goal.returns-clause-reads_the_chart_or_tells_the_fault
 unfolding names_of
-returns c =
+returns-clause-reads_the_chart_or_tells_the_fault c =
     let h = c.in_ok-found.ensures.reads in
     let file = c.args.self.now.cursor.file.now in
     let found = c.in_ok-found.found in
@@ -27,15 +22,11 @@ returns c =
     let names = names_length c.check_file.new.self.file.now found.starts.items in
     let filled = rw c.check_file.ensures.same_file at c.fill.ensures in
     record {
-      same_file = ap (λ f. f.now) c.check_file.ensures.same_file;
-      reads_the_chart_or_tells_the_fault = record {
-        legs = legs;
-        means = rw c.check_file.ensures.same_file h.0.means;
-        fixes = omega (arith, h.0.whole);
-        count = omega (arith, count);
-        room = omega (arith, count, h.0.fits);
-        filled = filled ∙ ap (λ k. legs ++ drop k c.args.memory.now) (sym count);
-        place = h.1;
-      };
-      one_verdict = sole _ _;
+      legs = legs;
+      means = rw c.check_file.ensures.same_file h.0.means;
+      fixes = omega (arith, h.0.whole);
+      count = omega (arith, count);
+      room = omega (arith, count, h.0.fits);
+      filled = filled ∙ ap (λ k. legs ++ drop k c.args.memory.now) (sym count);
+      place = h.1;
     }
