@@ -1,9 +1,8 @@
 -- Lists and chains that are put together of two parts.
-use Rattle.std.proofs.Common.{◌≡◌, ℕ, ◌+◌, ◌⊎◌, List, [], ◌∷◌, ◌++◌, sym, refl, subst, inl, inr, ⊎_elim, arith}
+use Rattle.std.proofs.Common.{ℕ, ◌⊎◌, List, [], ◌∷◌, ◌++◌, sym, refl, subst, inl, inr, ⊎_elim}
 use Rattle.chart.specs.declared.leg.Leg.{Leg}
 use Rattle.chart.specs.Legs.{at}
 use Rattle.chart.specs.Routes.{Leads, In, Once}
-use Rattle.chart.specs.Regret.{time}
 
 in_behind : (us vs : List ℕ) (v : ℕ) → In v vs → In v (us ++ vs)
 in_behind [] vs v i = i
@@ -28,7 +27,3 @@ once_join (x ∷ xs) ys d e n = (λ i. ⊎_elim d.0 (n x (inl refl)) (in_either 
 pub leads_join : (legs : List Leg) (ks ms : List ℕ) (s z t : ℕ) → Leads legs s ks z → Leads legs z ms t → Leads legs s (ks ++ ms) t
 leads_join legs [] ms s z t e l = subst (λ y. Leads legs y ms t) (sym e) l
 leads_join legs (k ∷ ks) ms s z t h l = (h.0, leads_join legs ks ms (at legs k).to z t h.1 l)
-
-pub time_join : (c : ℕ → ℕ) (ks ms : List ℕ) → time c (ks ++ ms) ≡ time c ks + time c ms
-time_join c [] ms = omega arith
-time_join c (k ∷ ks) ms = let h = time_join c ks ms in omega arith

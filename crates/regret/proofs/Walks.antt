@@ -1,7 +1,7 @@
 -- A walk one leg longer, where it cannot go on, and where it ends.
 use Rattle.std.proofs.Common.{◌≡◌, ℕ, ◌+◌, ◌<◌, Bool, true, false, List, [], ◌∷◌, ◌++◌, length, get_or, take, drop, set, replicate, sym, refl, ap, ◌∙◌, subst, ⊎_elim, arith}
 use Rattle.std.proofs.lemmas.List.{get_or-set_same, get_or-set_other, get_or_past, get_or-replicate, length-replicate, take-append-drop, drop_more}
-use Rattle.std.proofs.lemmas.Bool.{cases_eq, cases_lt}
+use Rattle.std.proofs.lemmas.Bool.{cases_eq, cases_lt, false_from_ne_true}
 use Rattle.chart.specs.declared.leg.Leg.{Leg}
 use Rattle.chart.specs.declared.row.Standing.TheVariants.{Open}
 use Rattle.chart.specs.Legs.{at}
@@ -10,11 +10,7 @@ use Rattle.chart.proofs.Chains.{leads_push, leads_on, entered_append, in_front, 
 use Rattle.regret.specs.Walks.{Flags, Walk, Steps, NoChain}
 
 pub true_false : (b : Bool) → b ≡ true → b ≡ false → ⊥
-true_false b p r = let z : ◌≡◌ {A = ℕ} 0 1 = cc in omega arith
-
-pub off_false : (b : Bool) → (b ≡ true → ⊥) → b ≡ false
-off_false true n = absurd (n refl)
-off_false false n = refl
+true_false b p r = cc
 
 pub flags_push : (flags : List Bool) (vs : List ℕ) (v : ℕ) → v < length flags → Flags flags vs → Flags (set flags v true) (vs ++ v ∷ [])
 flags_push flags vs v lt f = record {
@@ -58,7 +54,7 @@ module _ (legs : List Leg) (s : ℕ) (ks : List ℕ) (z : ℕ) (used : List Bool
   pub chain_steps : (t : ℕ) (rest : List ℕ) → Chain legs s (ks ++ k ∷ rest) t → Steps legs z used k
   chain_steps t rest c = record {
     leaves = (leads_on legs ks (k ∷ rest) s z t walk.chain.leads c.leads).0;
-    fresh = off_false _ (λ e.
+    fresh = false_from_ne_true _ (λ e.
         once_at (met legs s ks) (at legs k).to (entered legs rest)
         (subst (λ vs. Once (s ∷ vs)) (entered_append legs ks (k ∷ rest)) c.once) (walk.flags.back _ e));
   }
