@@ -1,5 +1,5 @@
 -- The search over all routes that begin with a chain.
-use Rattle.std.proofs.Common.{◌≡◌, ℕ, ◌+◌, ◌-◌, ◌<◌, ◌≤◌, true, false, List, [], ◌∷◌, ◌++◌, length, get_or, take, set, Some, None, Option, sym, refl, ap, ◌∙◌, subst, inl, inr, ⊎_elim, arith, length-set, length-append}
+use Rattle.std.proofs.Common.{◌≡◌, ℕ, ◌+◌, ◌-◌, ◌<◌, ◌≤◌, true, false, List, [], ◌∷◌, ◌++◌, length, get_or, take, set, Some, None, Option, sym, refl, ap, ◌∙◌, subst, arith, length-set, length-append}
 use Rattle.std.proofs.lemmas.List.{take_at, append_assoc, append-nil, set-set, set-get_or}
 use Rattle.std.proofs.lemmas.Bool.{cases_eq, cases_lt}
 use Rattle.arrayvec.specs.ArrayVec.{ArrayVec}
@@ -119,13 +119,7 @@ module _ {s : Sweep} {here : ℕ} (ready : Ready s here) where
 
   -- legs that do not leave the fix are passed over
   swept_past : {best : Option Best} (low high : ℕ) → ((k : ℕ) → low ≤ k → k < high → k < length t.legs → (at t.legs k).from ≡ here → ⊥) → Swept t s.best best (GoesBelow ks low) → Swept t s.best best (GoesBelow ks high)
-  swept_past low high none w = swept_of w (λ q flies g.
-      let k = g.0 in
-      let lt = g.1 in
-      ⊎_elim
-      (λ lt'. (k, lt', g.2))
-      (λ ge. let st = steps_on k g.2.0 q flies g.2.1 in absurd (none k ge lt st.leaves.there st.leaves.from))
-      (cases_lt k low))
+  swept_past low high none w = swept_of w (λ q flies g. grind (arith, steps_on g.0 g.2.0 q flies g.2.1, none g.0, cases_lt g.0 low))
 
   -- the search goes to the next leg of the fix
   swept_next : {best : Option Best} (low : ℕ) (next : Option ℕ) → FirstLeg t.legs here low next → Swept t s.best best (GoesBelow ks low) → Swept t s.best best (GoesBelow ks (turn_of t.legs next)) × LeavesHere t.legs here next
@@ -149,12 +143,7 @@ module _ {s : Sweep} {here : ℕ} (ready : Ready s here) where
         let after' : NextLeg t.legs k next' = subst (λ (x : Sweep). NextLeg (legs_of x.snapshot.now) k next') all after in
         let turn' : Swept t s₁.best s₂.best (GoesOn ks k) = subst (λ (x : Sweep). Swept (trip_of x) s₁.best s₂.best (GoesOn x.chain.items k)) turns.stands turn in
         let first = subst (λ v. FirstLeg t.legs v (k + 1) next') here_leg.1 (after'.after here_leg.0) in
-        let both = swept_both turns.swept turn' (λ q flies g.
-        let lt = g.1 in
-        ⊎_elim
-        (λ e. inr (subst (λ j. GoesOn ks j q) e g.2))
-        (λ ne. inl (g.0, subst (λ n. g.0 < turn_of t.legs n) (sym is) (omega arith), g.2))
-        (cases_eq g.0 k)) in
+        let both = swept_both turns.swept turn' (λ q flies g. grind (arith, cases_eq g.0 k)) in
         let w = swept_next (k + 1) next' first both in
         record { swept = w.0; leaves = w.1; stands = all }
 
