@@ -53,8 +53,7 @@ module _ (legs : List Leg) (used : List Bool) where
       by_flag true f on =
           let g : total_from (avoid_rule used) legs None ks ≡ Some a = ap (λ u. total_from (avoid_rule used) legs (add_off u (at legs k).high (Some x)) ks) (sym f) ∙ e in
           let n = none_stays ks in
-          let z : ◌≡◌ {A = ℕ} 0 1 = cc in
-          absurd (omega arith)
+          cc
       by_flag false f on =
           let h = on (ap (λ u. total_from (avoid_rule used) legs (add_off u (at legs k).high (Some x)) ks) (sym f) ∙ e) in
           (λ j i. ⊎_elim (λ s. subst (λ m. get_or used (at legs m).to false ≡ false) (sym s) f) (λ i'. h.0 j i') i, let s = h.1 in omega arith)

@@ -1,5 +1,6 @@
 -- The routes that begin with a chain, from the chains that lead on from its end over fixes that it does not meet.
 use Rattle.std.proofs.Common.{◌≡◌, ℕ, ◌+◌, ◌*◌, ◌<◌, ◌≤◌, Bool, false, List, [], ◌∷◌, ◌++◌, length, get_or, None, sym, refl, ap, ◌∙◌, subst, arith}
+use Rattle.std.proofs.lemmas.Bool.{false_from_ne_true}
 use Rattle.chart.specs.declared.leg.Leg.{Leg}
 use Rattle.chart.specs.Limits.{max_fixes, max_seconds}
 use Rattle.chart.specs.Legs.{at, Charted}
@@ -10,12 +11,12 @@ use Rattle.chart.proofs.Chains.{leads_on, entered_append}
 use Rattle.chart.proofs.Short.{chain_short}
 use Rattle.chart.proofs.Within.{route_leaves_fix}
 use Rattle.regret.specs.Walks.{Walk, NoChain}
-use Rattle.regret.proofs.Walks.{true_false, off_false}
+use Rattle.regret.proofs.Walks.{true_false}
 use Rattle.regret.proofs.Worsts.{in_entered}
-use Rattle.regret.proofs.Losing.{highs_small, chain_is_route}
+use Rattle.regret.proofs.Losing.{highs_small, time_join, chain_is_route}
 use Rattle.floor.specs.Onward.{Off, LeastOff, LeastOnward}
 use Rattle.floor.proofs.Fixes.{entered_by, end_met}
-use Rattle.floor.proofs.Parts.{parts_apart, once_behind, once_join, leads_join, time_join}
+use Rattle.floor.proofs.Parts.{parts_apart, once_behind, once_join, leads_join}
 
 module _ (legs : List Leg) (s t : ℕ) (ks : List ℕ) (z : ℕ) (used : List Bool) (walk : Walk legs s ks z used) where
   -- what a chain that begins with the walk goes on by
@@ -26,7 +27,7 @@ module _ (legs : List Leg) (s t : ℕ) (ks : List ℕ) (z : ℕ) (used : List Bo
           leads = leads_on legs ks rest s z t walk.chain.leads c.leads;
           once = (λ i. parts_apart (met legs s ks) (entered legs rest) z (end_met legs ks s z walk.chain.leads) i all, once_behind (met legs s ks) (entered legs rest) all);
         },
-        λ k i. off_false _ (λ e. parts_apart (met legs s ks) (entered legs rest) (at legs k).to (walk.flags.back _ e) (in_entered legs rest k i) all),
+        λ k i. false_from_ne_true _ (λ e. parts_apart (met legs s ks) (entered legs rest) (at legs k).to (walk.flags.back _ e) (in_entered legs rest k i) all),
       )
 
   -- a chain from its end that enters none of its fixes goes on from it

@@ -1,5 +1,5 @@
 -- The floor of a chain is below the regret of every route that begins with it, is never negative, and is one number.
-use Rattle.std.proofs.Common.{◌≡◌, ℕ, zero, suc, ◌-◌, ◌<◌, ◌≤◌, ◌⊎◌, List, length, sym, refl, ◌∙◌, subst, inl, inr, ⊎_elim, arith}
+use Rattle.std.proofs.Common.{◌≡◌, ℕ, zero, suc, ◌-◌, ◌<◌, ◌≤◌, ◌⊎◌, List, length, sym, refl, subst, inl, inr, ⊎_elim, arith}
 use native.Mathlib.Decide.{dec_le}
 use Rattle.std.proofs.lemmas.Bool.{cases_eq, cases_lt}
 use Rattle.chart.specs.declared.leg.Leg.{Leg}
@@ -60,33 +60,13 @@ least_not_absent t c p flies none = below (time c p) p flies (omega arith)
 module _ (legs : List Leg) (ks : List ℕ) where
   -- what holds of the low and of the high time holds of the time that is taken, so far as numbers compare
   braced_low : (v : ℕ → ℕ) → Braced legs ks v → (k : ℕ) → k < length legs → (at legs k).low ≤ v k
-  braced_low v braced k lt =
-      let o = (at legs k).ordered in
-      elim (dec_le (at legs k).low (v k)) [
-        | yes p ↦ p
-        | no n ↦
-            let e = braced.off k lt (λ shut. let f = braced.on k lt shut in n (omega arith)) in
-            absurd (n (omega arith))
-      ]
+  braced_low v braced k lt = grind (arith, (at legs k).ordered, braced.on k lt, braced.off k lt)
 
   braced_high : (v : ℕ → ℕ) → Braced legs ks v → (k : ℕ) → k < length legs → v k ≤ (at legs k).high
-  braced_high v braced k lt =
-      let o = (at legs k).ordered in
-      elim (dec_le (v k) (at legs k).high) [
-        | yes p ↦ p
-        | no n ↦
-            let e = braced.off k lt (λ shut. let f = braced.on k lt shut in n (omega arith)) in
-            absurd (n (omega arith))
-      ]
+  braced_high v braced k lt = grind (arith, (at legs k).ordered, braced.on k lt, braced.off k lt)
 
   braced_same : (v w : ℕ → ℕ) → Braced legs ks v → Braced legs ks w → (k : ℕ) → k < length legs → v k ≡ w k
-  braced_same v w a b k lt =
-      ⊎_elim
-      (λ e. e)
-      (λ ne.
-      let unshut : Shut legs ks k → ⊥ = λ shut. ne (a.on k lt shut ∙ sym (b.on k lt shut)) in
-      absurd (ne (a.off k lt unshut ∙ sym (b.off k lt unshut))))
-      (cases_eq (v k) (w k))
+  braced_same v w a b k lt = grind (arith, a.on k lt, a.off k lt, b.on k lt, b.off k lt, cases_eq (v k) (w k))
 
 -- the legs of a route are legs of the chart
 flown_there : (t : Trip) (q : List ℕ) → Flies t q → (k : ℕ) → In k q → k < length t.legs
@@ -96,10 +76,7 @@ flown_there t q flies = legs_there t.legs q t.from t.to flies.chain.leads
 worst_below_braced : (t : Trip) (ks : List ℕ) (v : ℕ → ℕ) → Braced t.legs ks v → (p : List ℕ) → Flies t p → Begins ks p → (k : ℕ) → k < length t.legs → worst_of t.legs p k ≤ v k
 worst_below_braced t ks v braced p flies b k lt =
     let w = worst_is t.legs p in
-    ⊎_elim
-    (λ i. let e = w.on k i in let f = braced.off k lt (λ shut. shut_not_flown t ks p flies b k shut i) in omega arith)
-    (λ n. let e = w.off k n in let f = braced_low t.legs ks v braced k lt in omega arith)
-    (in_or k p)
+    grind (arith, w.on k, w.off k, braced.off k lt, shut_not_flown t ks p flies b k, braced_low t.legs ks v braced k lt, in_or k p)
 
 pub floor_is_never_negative : FloorIsNeverNegative
 floor_is_never_negative t ks a b v near braced least =

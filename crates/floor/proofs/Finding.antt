@@ -1,10 +1,9 @@
 -- The floor of a chain from what was found of it: its high time, the least high time onward, and the braced time.
-use Rattle.std.proofs.Common.{◌≡◌, ℕ, ◌+◌, ◌-◌, ◌≤◌, List, Ok, Result, subst, subst₂, arith}
+use Rattle.std.proofs.Common.{ℕ, ◌+◌, ◌-◌, ◌≤◌, List, Ok, arith}
 use Rattle.chart.specs.declared.leg.Leg.{Leg}
 use Rattle.chart.specs.Regret.{trip}
 use Rattle.chart.specs.Floors.{Nearest}
 use Rattle.regret.specs.declared.walked.Walked.{Walked}
-use Rattle.floor.specs.declared.refusals.FloorRefusal.{FloorRefusal}
 use Rattle.floor.specs.Answers.{FloorAnswer}
 use Rattle.floor.specs.Onward.{LeastOff}
 use Rattle.regret.specs.Walks.{Along}
@@ -26,8 +25,3 @@ module _ (legs : List Leg) (s t : ℕ) (ks : List ℕ) (w : Walked) (along : Alo
           record { a = w.high + x; b = b; v = braced.choice; nearest = near; braced = braced.braced; least = braced.least; over = omega arith },
         ),
       )
-
--- an answer on a trip is one on the same trip
-pub answer_carried : {legs legs' : List Leg} {s s' t t' : ℕ} → legs ≡ legs' → s ≡ s' → t ≡ t' → (ks : List ℕ) (r : Result ℕ FloorRefusal) → FloorAnswer (trip legs s t) ks r → FloorAnswer (trip legs' s' t') ks r
-answer_carried {legs = legs} {legs' = legs'} {s = s} {s' = s'} {t = t} {t' = t'} el es et ks r a =
-    subst (λ l. FloorAnswer (trip l s' t') ks r) el (subst₂ (λ x y. FloorAnswer (trip legs x y) ks r) es et a)

@@ -1,21 +1,20 @@
 -- Lists and chains that are put together of two parts.
-use Rattle.std.proofs.Common.{◌≡◌, ℕ, ◌+◌, ◌⊎◌, List, [], ◌∷◌, ◌++◌, sym, refl, subst, inl, inr, ⊎_elim, arith}
+use Rattle.std.proofs.Common.{ℕ, ◌⊎◌, List, [], ◌∷◌, ◌++◌, sym, subst, inr, arith}
 use Rattle.chart.specs.declared.leg.Leg.{Leg}
 use Rattle.chart.specs.Legs.{at}
 use Rattle.chart.specs.Routes.{Leads, In, Once}
-use Rattle.chart.specs.Regret.{time}
 
 in_behind : (us vs : List ℕ) (v : ℕ) → In v vs → In v (us ++ vs)
 in_behind [] vs v i = i
-in_behind (u ∷ us) vs v i = inr (in_behind us vs v i)
+in_behind (u ∷ us) vs v i = grind (arith, in_behind us vs v)
 
 in_either : (us vs : List ℕ) (v : ℕ) → In v (us ++ vs) → In v us ⊎ In v vs
 in_either [] vs v i = inr i
-in_either (u ∷ us) vs v i = ⊎_elim (λ e. inl (inl e)) (λ j. ⊎_elim (λ a. inl (inr a)) inr (in_either us vs v j)) i
+in_either (u ∷ us) vs v i = grind (arith, in_either us vs v)
 
 pub parts_apart : (xs ys : List ℕ) (z : ℕ) → In z xs → In z ys → Once (xs ++ ys) → ⊥
 parts_apart [] ys z i j d = i
-parts_apart (x ∷ xs) ys z i j d = ⊎_elim (λ e. d.0 (subst (λ v. In v (xs ++ ys)) e (in_behind xs ys z j))) (λ k. parts_apart xs ys z k j d.1) i
+parts_apart (x ∷ xs) ys z i j d = grind (arith, parts_apart xs ys z, in_behind xs ys z)
 
 pub once_behind : (xs ys : List ℕ) → Once (xs ++ ys) → Once ys
 once_behind [] ys d = d
@@ -23,12 +22,8 @@ once_behind (x ∷ xs) ys d = once_behind xs ys d.1
 
 pub once_join : (xs ys : List ℕ) → Once xs → Once ys → ((x : ℕ) → In x xs → In x ys → ⊥) → Once (xs ++ ys)
 once_join [] ys d e n = e
-once_join (x ∷ xs) ys d e n = (λ i. ⊎_elim d.0 (n x (inl refl)) (in_either xs ys x i), once_join xs ys d.1 e (λ y i j. n y (inr i) j))
+once_join (x ∷ xs) ys d e n = grind (arith, once_join xs ys, in_either xs ys x)
 
 pub leads_join : (legs : List Leg) (ks ms : List ℕ) (s z t : ℕ) → Leads legs s ks z → Leads legs z ms t → Leads legs s (ks ++ ms) t
 leads_join legs [] ms s z t e l = subst (λ y. Leads legs y ms t) (sym e) l
 leads_join legs (k ∷ ks) ms s z t h l = (h.0, leads_join legs ks ms (at legs k).to z t h.1 l)
-
-pub time_join : (c : ℕ → ℕ) (ks ms : List ℕ) → time c (ks ++ ms) ≡ time c ks + time c ms
-time_join c [] ms = omega arith
-time_join c (k ∷ ks) ms = let h = time_join c ks ms in omega arith

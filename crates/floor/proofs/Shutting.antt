@@ -1,10 +1,10 @@
 -- Which legs a chain shuts, by flags, and the least time of any route where they are shut.
-use Rattle.std.proofs.Common.{◌≡◌, ℕ, ◌+◌, ◌<◌, Bool, true, false, not, List, length, get_or, set, Some, None, MatchBool, Option, sym, refl, ap, ◌∙◌, subst, inl, inr, ⊎_elim, arith}
-use Rattle.std.proofs.lemmas.List.{get_or-set_same, get_or-set_other}
+use Rattle.std.proofs.lemmas.Grind.{common_steps}
+use Rattle.std.proofs.Common.{◌≡◌, ℕ, ◌+◌, ◌<◌, Bool, true, false, not, List, length, get_or, set, Some, None, MatchBool, Option, sym, refl, ap, ◌∙◌, inl, inr, ⊎_elim, arith}
 use Rattle.std.proofs.lemmas.Bool.{cases_eq}
 use Rattle.chart.specs.declared.leg.Leg.{Leg}
 use Rattle.chart.specs.Legs.{at}
-use Rattle.chart.specs.Routes.{entered, met, In}
+use Rattle.chart.specs.Routes.{In}
 use Rattle.chart.specs.Kinds.{seconds_rule}
 use Rattle.chart.specs.Best.{BestTotal}
 use Rattle.chart.specs.Regret.{trip}
@@ -35,21 +35,10 @@ module _ (legs : List Leg) (s : ℕ) (ks : List ℕ) (w : Walked) (along : Along
   -- where no leg of the chain leaves the fix that the leg leaves, it is shut by the fix that it enters
   module _ (u v : ℕ) (end : u ≡ w.end) (from : v ≡ leg.from) (free : UsedBeside w.used u v false) (x y : ℕ) (start : x ≡ s) (to : y ≡ leg.to) where
     leaves_alone : (m : ℕ) → In m ks → (at legs k).from ≡ (at legs m).from → ⊥
-    leaves_alone m i e =
-        let same : v ≡ (at legs m).from = from ∙ ap (λ (l : Leg). l.from) is ∙ e in
-        ⊎_elim
-        (λ h. left_not_end legs ks s w.end walk.chain.leads walk.chain.once m i (sym same ∙ h ∙ end))
-        (λ h. true_false _ (walk.flags.on v (subst (λ n. In n (met legs s ks)) (sym same) (left_met legs ks s w.end walk.chain.leads m i))) h)
-        free
+    leaves_alone m i e = grind (arith, left_not_end legs ks s w.end walk.chain.leads walk.chain.once m i, walk.flags.on v, left_met legs ks s w.end walk.chain.leads m i)
 
     enters_alone : (m : ℕ) → In m ks → UsedBeside w.used x y false → (at legs k).to ≡ (at legs m).to → ⊥
-    enters_alone m i unused e =
-        let same : y ≡ (at legs m).to = to ∙ ap (λ (l : Leg). l.to) is ∙ e in
-        let j : In y (entered legs ks) = subst (λ n. In n (entered legs ks)) (sym same) (in_entered legs ks m i) in
-        ⊎_elim
-        (λ h. walk.chain.once.0 (subst (λ n. In n (entered legs ks)) (h ∙ start) j))
-        (λ h. true_false _ (walk.flags.on y (inr j)) h)
-        unused
+    enters_alone m i unused e = grind (arith, walk.chain.once.0, walk.flags.on y, in_entered legs ks m i)
 
     pub shut_by_entered : (b : Bool) → UsedBeside w.used x y b → MatchBool b (Shut legs ks k) (Shut legs ks k → ⊥)
     shut_by_entered true entering =
@@ -64,13 +53,7 @@ turned A false h = h
 
 -- the marks of the legs below j + 1 from those below j
 pub unshut_again : (legs : List Leg) (ks : List ℕ) (marks : List Bool) (j : ℕ) (r : Bool) → j < length marks → Unshut legs ks marks j → MatchBool r (Shut legs ks j) (Shut legs ks j → ⊥) → Unshut legs ks (set marks j (not r)) (j + 1)
-unshut_again legs ks marks j r lt old new k below =
-    ⊎_elim
-    (λ e.
-    subst (λ i. MatchBool (get_or (set marks j (not r)) i false) (Shut legs ks i → ⊥) (Shut legs ks i)) (sym e)
-    (subst (λ b. MatchBool b (Shut legs ks j → ⊥) (Shut legs ks j)) (sym (get_or-set_same marks j (not r) false lt)) (turned (Shut legs ks j) r new)))
-    (λ ne. subst (λ b. MatchBool b (Shut legs ks k → ⊥) (Shut legs ks k)) (sym (get_or-set_other marks j k (not r) false ne)) (old k (omega arith)))
-    (cases_eq k j)
+unshut_again legs ks marks j r lt old new k below = grind (arith, common_steps, old k, turned (Shut legs ks j) r new, cases_eq k j)
 
 -- where just the legs that are not shut are marked, the marks are a braced choice
 unshut_braced : (legs : List Leg) (ks : List ℕ) (marks : List Bool) → Unshut legs ks marks (length legs) → Braced legs ks (chosen legs marks)

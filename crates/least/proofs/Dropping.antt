@@ -1,8 +1,6 @@
 -- When a chain may be dropped: no route begins with it, or the best so far beats the chain with a regret that is below the
 -- regret of every route that begins with it.
-use Rattle.std.proofs.Common.{ℕ, ◌≤◌, Bool, true, false, ◌≡◌, Bor, ◌⊎◌, List, Some, None, Option, MatchBool, MatchOption, option_copied, sym, subst, inl, inr, ⊎_elim, arith}
-use Rattle.std.proofs.lemmas.Bool.{cases_lt}
-use Rattle.chart.specs.Routes.{Before}
+use Rattle.std.proofs.Common.{ℕ, ◌≤◌, Bool, true, false, ◌≡◌, Bor, ◌⊎◌, List, Some, None, Option, MatchBool, MatchOption, option_copied, subst, arith}
 use Rattle.chart.specs.Regret.{Trip, Flies, Regret, Beats}
 use Rattle.chart.specs.Floors.{Begins}
 use Rattle.least.specs.declared.sweep.Best.{Best}
@@ -17,15 +15,7 @@ module _ (t : Trip) (ks : List ℕ) (x : ℕ) (below : BelowAll t ks x) where
   hopeless_beaten : (b : Best) → Beats b.regret b.list.items x ks → Hopeless t ks (Some b)
   hopeless_beaten b beats q flies on y r =
       let le = below q flies on y r in
-      inr
-      (⊎_elim
-      (λ lt. inl (omega arith))
-      (λ p.
-      let e = p.0 in
-      ⊎_elim inl
-      (λ ge. inr (omega arith, subst (λ l. Before b.list.items l) (sym on.1) (before_on b.list.items ks on.0 p.1)))
-      (cases_lt b.regret y))
-      beats)
+      grind (arith, before_on b.list.items ks on.0)
 
   -- a test that answers false where there is no best
   pub hopeless_told : (o : Option (Bor Best)) (best : Option Best) → option_copied o ≡ best → (r : Bool) (P : Bor Best → Type 0) → MatchOption o (r ≡ false) P → ((b : Bor Best) → P b → MatchBool r (Beats b.now.regret b.now.list.items x ks) ((ks ≡ b.now.list.items) ⊎ Beats x ks b.now.regret b.now.list.items)) → MatchBool r (Hopeless t ks best) (Unit {0})

@@ -1,5 +1,5 @@
 -- The search over all routes that begin with a chain.
-use Rattle.std.proofs.Common.{◌≡◌, ℕ, ◌+◌, ◌-◌, ◌<◌, ◌≤◌, true, false, List, [], ◌∷◌, ◌++◌, length, get_or, take, set, Some, Option, sym, refl, ap, ◌∙◌, subst, inl, inr, ⊎_elim, arith, length-set, length-append}
+use Rattle.std.proofs.Common.{◌≡◌, ℕ, ◌+◌, ◌-◌, ◌<◌, ◌≤◌, true, false, List, [], ◌∷◌, ◌++◌, length, get_or, take, set, Some, Option, sym, refl, ap, ◌∙◌, subst, arith, length-set, length-append}
 use Rattle.std.proofs.lemmas.List.{take_at, append_assoc, append-nil, set-set, set-get_or}
 use Rattle.std.proofs.lemmas.Bool.{cases_eq, cases_lt}
 use Rattle.arrayvec.specs.ArrayVec.{ArrayVec}
@@ -113,13 +113,7 @@ module _ {s : Sweep} {here : ℕ} (ready : Ready s here) where
 
   -- legs that do not leave the fix are passed over
   swept_past : {best : Option Best} (low high : ℕ) → ((k : ℕ) → low ≤ k → k < high → k < length t.legs → (at t.legs k).from ≡ here → ⊥) → Swept t s.best best (GoesBelow ks low) → Swept t s.best best (GoesBelow ks high)
-  swept_past low high none w = swept_of w (λ q flies g.
-      let k = g.0 in
-      let lt = g.1 in
-      ⊎_elim
-      (λ lt'. (k, lt', g.2))
-      (λ ge. let st = steps_on k g.2.0 q flies g.2.1 in absurd (none k ge lt st.leaves.there st.leaves.from))
-      (cases_lt k low))
+  swept_past low high none w = swept_of w (λ q flies g. grind (arith, steps_on g.0 g.2.0 q flies g.2.1, none g.0, cases_lt g.0 low))
 
   pub turns_start : (left : List ℕ) → left ≡ leaving (legs_of s.snapshot.now) here 0 → Turns s here s left
   turns_start left is = record { low = 0; others = is; swept = swept_none ready.sound (λ q flies g. let lt = g.1 in absurd (omega arith)); stands = refl }
@@ -133,12 +127,7 @@ module _ {s : Sweep} {here : ℕ} (ready : Ready s here) where
     turns_again k rest is s₂ turn stands =
         let next = leaving_goes_on t.legs here (sym turns.others ∙ is) in
         let turn' : Swept t s₁.best s₂.best (GoesOn ks k) = subst (λ (x : Sweep). Swept (trip_of x) s₁.best s₂.best (GoesOn x.chain.items k)) turns.stands turn in
-        let both = swept_both (swept_past turns.low k (λ j a b there from. next.0.gap j a b from) turns.swept) turn' (λ q flies g.
-        let lt = g.1 in
-        ⊎_elim
-        (λ e. inr (subst (λ j. GoesOn ks j q) e g.2))
-        (λ ne. inl (g.0, omega arith, g.2))
-        (cases_eq g.0 k)) in
+        let both = swept_both (swept_past turns.low k (λ j a b there from. next.0.gap j a b from) turns.swept) turn' (λ q flies g. grind (arith, cases_eq g.0 k)) in
         record { low = k + 1; others = next.1; swept = both; stands = stands ∙ ap (λ (x : Sweep). record x { best = s₂.best }) turns.stands }
 
     pub turns_end : (here ≡ s.ends.to → ⊥) → left ≡ [] → Swept (trip_of s) s.best s₁.best (Begins s.chain.items)

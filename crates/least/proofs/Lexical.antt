@@ -1,5 +1,5 @@
 -- The order of lists, and the order of routes by regret and list: of a regret before its list, as of one list.
-use Rattle.std.proofs.Common.{◌≡◌, ℕ, ◌<◌, Bool, ◌⊎◌, List, [], ◌∷◌, ◌++◌, Some, MatchBool, sym, refl, ap, ◌∙◌, subst, inl, inr, ⊎_elim, arith}
+use Rattle.std.proofs.Common.{◌≡◌, ℕ, ◌<◌, Bool, ◌⊎◌, List, [], ◌∷◌, ◌++◌, Some, MatchBool, sym, refl, ap, ◌∙◌, subst, inl, inr, arith}
 use Rattle.std.specs.declared.cmp.Ordering.{Ordering}
 use Rattle.std.specs.declared.cmp.Ordering.TheVariants.{Less, Equal, Greater}
 use Rattle.std.specs.Ordering.{MatchOrdering, nat_cmp, ordering_then, is_lt, is_some_and}
@@ -10,7 +10,7 @@ use Rattle.chart.specs.Regret.{Beats}
 
 before_itself : (a : List ℕ) → Before a a → ⊥
 before_itself [] p = p
-before_itself (x ∷ a) p = ⊎_elim (λ lt. omega arith) (λ q. before_itself a q.1) p
+before_itself (x ∷ a) p = grind (arith, before_itself a)
 
 before_trans : (a b c : List ℕ) → Before a b → Before b c → Before a c
 before_trans [] [] c p q = absurd p
@@ -18,11 +18,7 @@ before_trans [] (y ∷ b) [] p q = q
 before_trans [] (y ∷ b) (z ∷ c) p q = tt
 before_trans (x ∷ a) [] c p q = absurd p
 before_trans (x ∷ a) (y ∷ b) [] p q = q
-before_trans (x ∷ a) (y ∷ b) (z ∷ c) p q =
-    ⊎_elim
-    (λ xy. ⊎_elim (λ yz. inl (omega arith)) (λ yz. let e = yz.0 in inl (omega arith)) q)
-    (λ xy. let e = xy.0 in ⊎_elim (λ yz. inl (omega arith)) (λ yz. let f = yz.0 in inr (e ∙ f, before_trans a b c xy.1 yz.1)) q)
-    p
+before_trans (x ∷ a) (y ∷ b) (z ∷ c) p q = grind (arith, before_trans a b c)
 
 pub beats_trans : (x y z : ℕ) (a b c : List ℕ) → Beats x a y b → Beats y b z c → Beats x a z c
 beats_trans x y z a b c = before_trans (x ∷ a) (y ∷ b) (z ∷ c)
@@ -35,7 +31,7 @@ pub before_on : (a b c : List ℕ) → Before a b → Before a (b ++ c)
 before_on [] [] c h = absurd h
 before_on [] (y ∷ b) c h = tt
 before_on (x ∷ a) [] c h = absurd h
-before_on (x ∷ a) (y ∷ b) c h = ⊎_elim inl (λ p. inr (p.0, before_on a b c p.1)) h
+before_on (x ∷ a) (y ∷ b) c h = grind (arith, before_on a b c)
 
 -- how std compares two lists
 before_cmp : (a b : List ℕ) → MatchOrdering (slice_cmp nat_cmp a b) (Before a b) (b ≡ a) (Before b a)

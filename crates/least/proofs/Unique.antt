@@ -1,5 +1,5 @@
 -- There is one route of least regret at most: of two, each would come before the other.
-use Rattle.std.proofs.Common.{◌≡◌, ℕ, ◌⊎◌, List, [], ◌∷◌, sym, refl, subst, inl, inr, ⊎_elim}
+use Rattle.std.proofs.Common.{◌≡◌, ℕ, ◌⊎◌, List, [], ◌∷◌, sym, refl, subst, inl, inr, ⊎_elim, arith}
 use Rattle.std.proofs.lemmas.Bool.{cases_eq}
 use Rattle.chart.specs.Regret.{Regret, LeastRegretIsUnique}
 use Rattle.regret.proofs.Worsts.{regret_is_unique}
@@ -9,11 +9,7 @@ same_or : (p q : List ℕ) → (p ≡ q) ⊎ (p ≡ q → ⊥)
 same_or [] [] = inl refl
 same_or [] (y ∷ q) = inr (λ e. cc)
 same_or (x ∷ p) [] = inr (λ e. cc)
-same_or (x ∷ p) (y ∷ q) =
-    ⊎_elim
-    (λ e. ⊎_elim (λ f. inl (cc)) (λ n. inr (λ f. n (cc))) (same_or p q))
-    (λ n. inr (λ f. n (cc)))
-    (cases_eq x y)
+same_or (x ∷ p) (y ∷ q) = grind (arith, same_or p q, cases_eq x y)
 
 pub least_regret_is_unique : LeastRegretIsUnique
 least_regret_is_unique t p q x y a b =

@@ -1,13 +1,14 @@
 -- The regret of a route from the best total in its worst choice, and a walk one leg longer.
 use Rattle.std.proofs.Common.{◌≡◌, ℕ, ◌+◌, ◌-◌, ◌*◌, ◌<◌, ◌≤◌, Bool, true, false, List, [], ◌∷◌, ◌++◌, length, get_or, take, set, replicate, Some, Ok, Err, sym, ap, ◌∙◌, subst, subst₂, arith}
-use Rattle.std.proofs.lemmas.List.{take_more, take_all}
+use Rattle.std.proofs.lemmas.List.{take_more}
+use Rattle.std.proofs.lemmas.Bool.{false_from_ne_true}
 use Rattle.chart.specs.declared.leg.Leg.{Leg}
 use Rattle.chart.specs.Limits.{max_fixes, max_legs, max_seconds}
 use Rattle.chart.specs.Legs.{at, Charted}
 use Rattle.chart.specs.Routes.{Chain, Route}
 use Rattle.chart.specs.Kinds.{seconds_rule}
 use Rattle.chart.specs.Best.{total_from, Best}
-use Rattle.chart.specs.Regret.{Trip, trip, Flies, time, LeastTime, Regret, Worst}
+use Rattle.chart.specs.Regret.{Trip, trip, Flies, time, LeastTime, Worst}
 use Rattle.chart.specs.Floors.{highs}
 use Rattle.chart.proofs.Short.{chain_short}
 use Rattle.chart.proofs.Within.{route_goes_away}
@@ -17,7 +18,7 @@ use Rattle.regret.specs.Marked.{time_by, marked_times}
 use Rattle.regret.specs.declared.refusals.RegretRefusal.{RegretRefusal}
 use Rattle.regret.specs.declared.refusals.RegretRefusal.TheVariants.{NotARoute}
 use Rattle.regret.specs.Answers.{RegretAnswer}
-use Rattle.regret.proofs.Walks.{off_false, flags_push, flags_none, walk_start, walk_push}
+use Rattle.regret.proofs.Walks.{flags_push, flags_none, walk_start, walk_push}
 use Rattle.regret.proofs.Worsts.{worst_choice_gives_regret, time_same}
 
 -- the time of each leg where the marked legs take their high time and all others their low
@@ -28,9 +29,9 @@ pub total_is_time : (legs : List Leg) (marks : List Bool) (ks : List ℕ) (x : �
 total_is_time legs marks [] x = omega arith
 total_is_time legs marks (k ∷ ks) x = let h = total_is_time legs marks ks (x + chosen legs marks k) in omega arith
 
-pub time_push : (c : ℕ → ℕ) (ks : List ℕ) (k : ℕ) → time c (ks ++ k ∷ []) ≡ time c ks + c k
-time_push c [] k = omega arith
-time_push c (m ∷ ms) k = let h = time_push c ms k in omega arith
+pub time_join : (c : ℕ → ℕ) (ks ms : List ℕ) → time c (ks ++ ms) ≡ time c ks + time c ms
+time_join c [] ms = omega arith
+time_join c (k ∷ ks) ms = let h = time_join c ks ms in omega arith
 
 -- the best total in a choice is the least time of any route
 pub best_is_least : (legs : List Leg) (s t : ℕ) (marks : List Bool) (b : ℕ) → Best (seconds_rule (marked_times marks)) legs s t b → LeastTime (trip legs s t) (chosen legs marks) b
@@ -44,20 +45,8 @@ best_is_least legs s t marks b best = record {
 marks_worst : (legs : List Leg) (marks : List Bool) (p : List ℕ) → Flags marks p → Worst legs p (chosen legs marks)
 marks_worst legs marks p f = record {
   on = λ k i. ap (λ b. time_by b (at legs k)) (f.on k i);
-  off = λ k n. ap (λ b. time_by b (at legs k)) (off_false _ (λ e. n (f.back k e)));
+  off = λ k n. ap (λ b. time_by b (at legs k)) (false_from_ne_true _ (λ e. n (f.back k e)));
 }
-
--- a route whose legs are marked, its high times summed
-module _ (legs : List Leg) (s t : ℕ) (marks : List Bool) (p : List ℕ) (flags : Flags marks p) (high : ℕ) (sums : high ≡ time (highs legs) p) (route : Route legs s t p) (b : ℕ) (best : Best (seconds_rule (marked_times marks)) legs s t b) where
-  takes : time (chosen legs marks) p ≡ high
-  takes = time_same (chosen legs marks) (highs legs) p (λ k i. (marks_worst legs marks p flags).on k i) ∙ sym sums
-
-  pub best_below : b ≤ high
-  best_below = let h = (best_is_least legs s t marks b best).least p route in omega (arith, takes)
-
-  pub high_over_best : (x : ℕ) → high ≡ b + x → Regret (trip legs s t) p x
-  high_over_best x e =
-      worst_choice_gives_regret (trip legs s t) p (chosen legs marks) b x route (marks_worst legs marks p flags) (best_is_least legs s t marks b best) (takes ∙ e)
 
 -- before the first leg
 pub along_start : (legs : List Leg) (s : ℕ) (w : Walked) → s < max_fixes → w.end ≡ s → w.high ≡ 0 → w.used ≡ set (replicate max_fixes false) s true → w.marks ≡ replicate max_legs false → Along legs s [] w
@@ -90,7 +79,7 @@ step_known legs charted z used k leg e st =
     let to : leg.to ≡ (at legs k).to = ap (λ (l : Leg). l.to) e in
     record { to_small = omega (arith, charted.most); number_small = omega (arith, charted.few) }
 
--- one leg on, and at the end of the list
+-- one leg on
 module _ {fixes : ℕ} (legs : List Leg) (charted : Charted fixes legs) (s : ℕ) (list : List ℕ) (i : ℕ) (w : Walked) (along : Along legs s (take i list) w) where
   pub along_again : i < length list → (leg : Leg) → StepsAlong legs w.end w.used (get_or list i 0) (Some leg) → (w' : Walked) → w'.end ≡ leg.to → w'.high ≡ w.high + leg.high → w'.used ≡ set w.used leg.to true → w'.marks ≡ set w.marks (get_or list i 0) true → Along legs s (take (i + 1) list) w'
   along_again lt leg st w' end high used marks =
@@ -105,13 +94,10 @@ module _ {fixes : ℕ} (legs : List Leg) (charted : Charted fixes legs) (s : ℕ
             (subst₂ (λ z u. Walk legs s (take i list ++ k ∷ []) z u) (sym (end ∙ to)) (sym (used ∙ ap (λ x. set w.used x true) to)) walk);
         flags = subst₂ (λ u ks. Flags u ks) (sym marks) (sym m) (flags_push w.marks (take i list) k (omega (arith, known.number_small, w.marked)) along.flags);
         sums =
-            let p = time_push (highs legs) (take i list) k in
+            let p = time_join (highs legs) (take i list) (k ∷ []) in
             let q : w'.high ≡ time (highs legs) (take i list ++ k ∷ []) = omega (arith, along.sums) in
             q ∙ ap (time (highs legs)) (sym m);
       }
-
-  pub along_end : length list ≤ i → Along legs s list w
-  along_end le = subst (λ ks. Along legs s ks w) (take_all i list le) along
 
 -- a chain to the destination is a route, where any route leads there
 pub chain_is_route : (legs : List Leg) (s t z : ℕ) (ks : List ℕ) → Chain legs s ks z → z ≡ t → (q : List ℕ) → Route legs s t q → Route legs s t ks
@@ -121,9 +107,12 @@ chain_is_route legs s t z (k ∷ ks) c e q r = record { chain = subst (λ v. Cha
 -- the regret of a list that was walked along to the destination, from the best total in its worst choice
 pub regret_found : (legs : List Leg) (s t : ℕ) (ks : List ℕ) (w : Walked) → Along legs s ks w → w.end ≡ t → (b : ℕ) → Best (seconds_rule (marked_times w.marks)) legs s t b → (b ≤ w.high) × RegretAnswer (trip legs s t) ks (Ok (w.high - b))
 regret_found legs s t ks w along e b best =
+    let worst = marks_worst legs w.marks ks along.flags in
+    let takes = time_same (chosen legs w.marks) (highs legs) ks (λ k i. worst.on k i) in
     let route = chain_is_route legs s t w.end ks along.walk.chain e best.some.0 best.some.1 in
-    let below = best_below legs s t w.marks ks along.flags w.high along.sums route b best in
-    (below, (route, high_over_best legs s t w.marks ks along.flags w.high along.sums route b best (w.high - b) (omega arith)))
+    let least = best_is_least legs s t w.marks b best in
+    let below : b ≤ w.high = omega (arith, along.sums, least.least ks route) in
+    (below, (route, worst_choice_gives_regret (trip legs s t) ks (chosen legs w.marks) b (w.high - b) route worst least (omega (arith, along.sums))))
 
 -- the one refusal says that the list is no route
 pub not_a_route : (t : Trip) (ks : List ℕ) (e : RegretRefusal) → (Flies t ks → ⊥) → RegretAnswer t ks (Err e)

@@ -1,37 +1,26 @@
 -- A walk one leg longer, where it cannot go on, and where it ends.
-use Rattle.std.proofs.Common.{◌≡◌, ℕ, ◌+◌, ◌<◌, Bool, true, false, List, [], ◌∷◌, ◌++◌, length, get_or, take, drop, set, replicate, sym, refl, ap, ◌∙◌, subst, ⊎_elim, arith}
-use Rattle.std.proofs.lemmas.List.{get_or-set_same, get_or-set_other, get_or_past, get_or-replicate, length-replicate, take-append-drop, drop_more}
-use Rattle.std.proofs.lemmas.Bool.{cases_eq, cases_lt}
+use Rattle.std.proofs.Common.{◌≡◌, ℕ, ◌+◌, ◌<◌, Bool, true, false, List, [], ◌∷◌, ◌++◌, length, get_or, take, drop, set, replicate, sym, refl, ap, ◌∙◌, subst, arith}
+use Rattle.std.proofs.lemmas.List.{length-replicate, take-append-drop, drop_more}
+use Rattle.std.proofs.lemmas.Grind.{common_steps}
+use Rattle.std.proofs.lemmas.Bool.{cases_eq, cases_lt, false_from_ne_true}
 use Rattle.chart.specs.declared.leg.Leg.{Leg}
 use Rattle.chart.specs.declared.row.Standing.TheVariants.{Open}
 use Rattle.chart.specs.Legs.{at}
-use Rattle.chart.specs.Routes.{entered, met, In, Once, Chain}
+use Rattle.chart.specs.Routes.{entered, met, Once, Chain}
 use Rattle.chart.proofs.Chains.{leads_push, leads_on, entered_append, in_front, in_mid, in_end, once_push, once_at}
 use Rattle.regret.specs.Walks.{Flags, Walk, Steps, NoChain}
 
 pub true_false : (b : Bool) → b ≡ true → b ≡ false → ⊥
-true_false b p r = let z : ◌≡◌ {A = ℕ} 0 1 = cc in omega arith
-
-pub off_false : (b : Bool) → (b ≡ true → ⊥) → b ≡ false
-off_false true n = absurd (n refl)
-off_false false n = refl
+true_false b p r = cc
 
 pub flags_push : (flags : List Bool) (vs : List ℕ) (v : ℕ) → v < length flags → Flags flags vs → Flags (set flags v true) (vs ++ v ∷ [])
 flags_push flags vs v lt f = record {
-  back = λ x e.
-      ⊎_elim
-      (λ same. subst (λ y. In y (vs ++ v ∷ [])) (sym same) (in_mid vs v []))
-      (λ ne. in_front vs (v ∷ []) x (f.back x (sym (get_or-set_other flags v x true false ne) ∙ e)))
-      (cases_eq x v);
-  on = λ x i.
-      ⊎_elim
-      (λ same. subst (λ y. get_or (set flags v true) y false ≡ true) (sym same) (get_or-set_same flags v true false lt))
-      (λ ne. get_or-set_other flags v x true false ne ∙ f.on x (⊎_elim (λ j. j) (λ e. absurd (ne e)) (in_end vs x v i)))
-      (cases_eq x v);
+  back = λ x e. grind (arith, common_steps, f.back, in_front vs (v ∷ []) x, in_mid vs v [], cases_eq x v);
+  on = λ x i. grind (arith, common_steps, f.on, in_end vs x v, cases_eq x v);
 }
 
 pub unset : (n x : ℕ) → get_or (replicate n false) x false ≡ false
-unset n x = ⊎_elim (λ h. get_or-replicate n x false false h) (λ h. get_or_past (replicate n false) x false (omega (arith, length-replicate n false))) (cases_lt x n)
+unset n x = grind (arith, common_steps, cases_lt x n)
 
 pub flags_none : (n : ℕ) → Flags (replicate n false) []
 flags_none n = record { back = λ v e. true_false _ e (unset n v); on = λ v i. absurd i }
@@ -58,7 +47,7 @@ module _ (legs : List Leg) (s : ℕ) (ks : List ℕ) (z : ℕ) (used : List Bool
   pub chain_steps : (t : ℕ) (rest : List ℕ) → Chain legs s (ks ++ k ∷ rest) t → Steps legs z used k
   chain_steps t rest c = record {
     leaves = (leads_on legs ks (k ∷ rest) s z t walk.chain.leads c.leads).0;
-    fresh = off_false _ (λ e.
+    fresh = false_from_ne_true _ (λ e.
         once_at (met legs s ks) (at legs k).to (entered legs rest)
         (subst (λ vs. Once (s ∷ vs)) (entered_append legs ks (k ∷ rest)) c.once) (walk.flags.back _ e));
   }
@@ -66,8 +55,8 @@ module _ (legs : List Leg) (s : ℕ) (ks : List ℕ) (z : ℕ) (used : List Bool
 -- a leg that was read, by its number
 pub read_steps : (legs : List Leg) (z : ℕ) (used : List Bool) (k : ℕ) (leg : Leg) → k < length legs → leg ≡ at legs k → leg.from ≡ z → leg.standing ≡ Open → get_or used leg.to false ≡ false → Steps legs z used k
 read_steps legs z used k leg lt e from stands fresh = record {
-  leaves = record { there = lt; stands = ap (λ (l : Leg). l.standing) (sym e) ∙ stands; from = ap (λ (l : Leg). l.from) (sym e) ∙ from };
-  fresh = ap (λ (l : Leg). get_or used l.to false) (sym e) ∙ fresh;
+  leaves = record { there = lt; stands = cc; from = cc };
+  fresh = cc;
 }
 
 -- a list at one of its places

@@ -1,5 +1,5 @@
 -- The choice of times that is worst for a route.
-use Rattle.std.proofs.Common.{◌≡◌, ℕ, ◌+◌, ◌-◌, ◌<◌, ◌≤◌, cond, eqb, ◌⊎◌, List, [], ◌∷◌, length, sym, refl, ap, subst, inl, inr, ⊎_elim, arith, eq-eqb, ne_eqb}
+use Rattle.std.proofs.Common.{◌≡◌, ℕ, ◌+◌, ◌-◌, ◌<◌, ◌≤◌, cond, eqb, ◌⊎◌, List, [], ◌∷◌, length, refl, inr, arith, eq-eqb, ne_eqb}
 use Rattle.std.proofs.lemmas.Bool.{cases_eq}
 use Rattle.chart.specs.declared.leg.Leg.{Leg}
 use Rattle.chart.specs.Legs.{at}
@@ -8,15 +8,12 @@ use Rattle.chart.specs.Regret.{Choice, time, Worst, WorstChoiceGivesRegret, Regr
 
 pub in_or : (x : ℕ) (ys : List ℕ) → In x ys ⊎ (In x ys → ⊥)
 in_or x [] = inr (λ n. n)
-in_or x (y ∷ ys) =
-    ⊎_elim (λ e. inl (inl e))
-    (λ ne. ⊎_elim (λ i. inl (inr i)) (λ n. inr (λ i. ⊎_elim ne n i)) (in_or x ys))
-    (cases_eq x y)
+in_or x (y ∷ ys) = grind (arith, in_or x ys, cases_eq x y)
 
 -- the legs of a route are distinct, since its fixes are
 pub in_entered : (legs : List Leg) (ks : List ℕ) (k : ℕ) → In k ks → In (at legs k).to (entered legs ks)
 in_entered legs [] k i = i
-in_entered legs (m ∷ ms) k i = ⊎_elim (λ e. inl (ap (λ x. (at legs x).to) e)) (λ j. inr (in_entered legs ms k j)) i
+in_entered legs (m ∷ ms) k i = grind (arith, in_entered legs ms k)
 
 pub legs_once : (legs : List Leg) (ks : List ℕ) → Once (entered legs ks) → Once ks
 legs_once legs [] d = tt
@@ -24,7 +21,7 @@ legs_once legs (k ∷ ks) d = (λ i. d.0 (in_entered legs ks k i), legs_once leg
 
 pub legs_there : (legs : List Leg) (ks : List ℕ) (s z : ℕ) → Leads legs s ks z → (k : ℕ) → In k ks → k < length legs
 legs_there legs [] s z c k i = absurd i
-legs_there legs (m ∷ ms) s z c k i = ⊎_elim (λ e. rw e c.0.there) (λ j. legs_there legs ms (at legs m).to z c.1 k j) i
+legs_there legs (m ∷ ms) s z c k i = grind (arith, legs_there legs ms (at legs m).to z c.1 k)
 
 -- a time that only the leg x takes
 abbrev alone : ℕ → ℕ → ℕ → ℕ
@@ -45,24 +42,11 @@ time_zero (k ∷ r) = let h = time_zero r in omega arith
 
 alone_none : (x d : ℕ) (r : List ℕ) → (In x r → ⊥) → time (alone x d) r ≡ 0
 alone_none x d [] n = refl
-alone_none x d (k ∷ r) n =
-    let h = alone_none x d r (λ i. n (inr i)) in
-    let e : alone x d k ≡ 0 = ap (λ b. cond b d 0) (ne_eqb k x (λ e. n (inl (sym e)))) in
-    omega arith
+alone_none x d (k ∷ r) n = grind (arith, alone_none x d r, ne_eqb)
 
 alone_once : (x d : ℕ) (r : List ℕ) → Once r → time (alone x d) r ≤ d
 alone_once x d [] n = omega arith
-alone_once x d (k ∷ r) n =
-    ⊎_elim
-    (λ e.
-    let h = alone_none x d r (λ i. n.0 (subst (λ y. In y r) (sym e) i)) in
-    let f : alone x d k ≡ d = ap (λ b. cond b d 0) (eq-eqb k x e) in
-    omega arith)
-    (λ ne.
-    let h = alone_once x d r n.1 in
-    let f : alone x d k ≡ 0 = ap (λ b. cond b d 0) (ne_eqb k x ne) in
-    omega arith)
-    (cases_eq k x)
+alone_once x d (k ∷ r) n = grind (arith, alone_once x d r, alone_none x d r, cases_eq k x, eq-eqb, ne_eqb)
 
 spread_time : (p : List ℕ) (d : ℕ → ℕ) (r : List ℕ) → Once r → time (spread p d) r ≤ time d p
 spread_time [] d r n = let h = time_zero r in omega arith
@@ -74,25 +58,15 @@ spread_time (x ∷ xs) d r n =
 
 spread_in : (p : List ℕ) (d : ℕ → ℕ) (k : ℕ) → In k p → d k ≤ spread p d k
 spread_in [] d k i = absurd i
-spread_in (x ∷ xs) d k i =
-    ⊎_elim
-    (λ e.
-    let f : alone x (d x) k ≡ d x = ap (λ b. cond b (d x) 0) (eq-eqb k x e) in
-    let g : d k ≡ d x = ap d e in
-    omega arith)
-    (λ j. let h = spread_in xs d k j in omega arith)
-    i
+spread_in (x ∷ xs) d k i = grind (arith, spread_in xs d k, eq-eqb)
 
 pub time_le : (f g : ℕ → ℕ) (r : List ℕ) → ((k : ℕ) → In k r → f k ≤ g k) → time f r ≤ time g r
 time_le f g [] h = omega arith
-time_le f g (k ∷ r) h =
-    let a = h k (inl refl) in
-    let b = time_le f g r (λ j i. h j (inr i)) in
-    omega arith
+time_le f g (k ∷ r) h = grind (arith, time_le f g r)
 
 pub time_same : (f g : ℕ → ℕ) (r : List ℕ) → ((k : ℕ) → In k r → f k ≡ g k) → time f r ≡ time g r
 time_same f g [] h = refl
-time_same f g (k ∷ r) h = let a = h k (inl refl) in let b = time_same f g r (λ j i. h j (inr i)) in omega arith
+time_same f g (k ∷ r) h = grind (arith, time_same f g r)
 
 module _ (legs : List Leg) (p : List ℕ) (w : ℕ → ℕ) (worst : Worst legs p w) (s : ℕ → ℕ) (choice : Choice legs s) where
   abbrev slack : ℕ → ℕ
@@ -110,12 +84,7 @@ module _ (legs : List Leg) (p : List ℕ) (w : ℕ → ℕ) (worst : Worst legs 
   on_r r once there =
       let h = spread_time p slack r once in
       let e = time_sum s (spread p slack) r in
-      let a = time_le w (λ k. s k + spread p slack k) r (λ k i.
-      let c = choice k (there k i) in
-      ⊎_elim
-      (λ j. let u = worst.on k j in let v = spread_in p slack k j in omega arith)
-      (λ n. let u = worst.off k n in omega arith)
-      (in_or k p)) in
+      let a = time_le w (λ k. s k + spread p slack k) r (λ k i. grind (arith, choice k (there k i), worst.on k, worst.off k, spread_in p slack k, in_or k p)) in
       omega arith
 
   pub exchange : (r : List ℕ) → Once r → ((k : ℕ) → In k p → k < length legs) → ((k : ℕ) → In k r → k < length legs) → time s p + time w r ≤ time w p + time s r
@@ -124,9 +93,7 @@ module _ (legs : List Leg) (p : List ℕ) (w : ℕ → ℕ) (worst : Worst legs 
 pub worst_choice_gives_regret : WorstChoiceGivesRegret
 worst_choice_gives_regret t p w b x flies worst least over = record {
   choice = w;
-  chosen = λ k lt.
-      let o = (at t.legs k).ordered in
-      ⊎_elim (λ i. let e = worst.on k i in (omega arith, omega arith)) (λ n. let e = worst.off k n in (omega arith, omega arith)) (in_or k p);
+  chosen = λ k lt. grind (arith, worst.on k, worst.off k, in_or k p, (at t.legs k).ordered);
   loses = record { best = b; least = least; over = over };
   most = λ c y choice loses.
       let q = loses.least.by in

@@ -19,6 +19,3 @@ loop-k-preserved c ks along =
     let post = rw (c.leg.ensures, there) at c.is_some_and.ensures in
     let tells : TellsShut c.args.departure c.args.walked.now k (at (legs_of s) k) c.is_some_and.result = search rules in
     unshut_again (legs_of s) ks c.loop-k.marks k c.is_some_and.result lt (c.loop-k.invariant ks along) (tells (legs_of s) ks along refl)
-
-pub returns : goal.returns
-returns c ks along k lt = c.loop-k.invariant ks along k (omega arith)

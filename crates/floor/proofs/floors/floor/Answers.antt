@@ -1,12 +1,11 @@
-use Rattle.std.proofs.Common.{arith}
-use Rattle.floor.proofs.Finding.{answer_carried}
 use Rattle.floor.proofs.Bounds.{floor_is_below_every_regret, floor_is_never_negative, floor_is_unique}
 use Rattle.floor.proofs.floors.floor.Goals as goal
 
-pub returns : goal.returns
-returns g c = record {
-  answers = answer_carried c.of-snapshot.ensures.same_legs (omega arith) (omega arith) c.args.chain.now c.floor_on.result c.floor_on.ensures;
-  below_every_regret = floor_is_below_every_regret;
-  never_negative = floor_is_never_negative;
-  unique = floor_is_unique;
-}
+pub returns-clause-below_every_regret : goal.returns-clause-below_every_regret
+returns-clause-below_every_regret g c = floor_is_below_every_regret
+
+pub returns-clause-never_negative : goal.returns-clause-never_negative
+returns-clause-never_negative g c = floor_is_never_negative
+
+pub returns-clause-unique : goal.returns-clause-unique
+returns-clause-unique g c = floor_is_unique

@@ -1,4 +1,4 @@
-use Rattle.std.proofs.Common.{◌≡◌, ◌+◌, ◌-◌, ◌≤◌, Ok, Err, sym, subst, arith}
+use Rattle.std.proofs.Common.{◌≡◌, ◌+◌, ◌-◌, ◌≤◌, Ok, Err, sym, arith}
 use Rattle.std.proofs.lemmas.Bool.{eqb-true, eqb-false}
 use Rattle.std.proofs.lemmas.Result.{err_from_is_err_and}
 use Rattle.chart.specs.Regret.{trip}
@@ -6,8 +6,6 @@ use Rattle.search.specs.Snapshots.{legs_of}
 use Rattle.search.specs.Sound.{snapshot_charted}
 use Rattle.floor.specs.declared.refusals.FloorRefusal.TheVariants.{NoRoute}
 use Rattle.floor.specs.Answers.{FloorAnswer}
-use Rattle.floor.specs.Onward.{LeastOnward}
-use Rattle.floor.specs.Braces.{BracedTime}
 use Rattle.floor.proofs.Beginning.{none_begins, nearest_small, empty_no_route, some_no_chain}
 use Rattle.floor.proofs.Finding.{floor_found}
 use Rattle.floor.proofs.floors.floor_on.Goals as goal
@@ -28,7 +26,7 @@ returns-in_err-onward c =
     let legs = legs_of c.args.snapshot.now in
     let w = c.in-Some.walked in
     let walk = c.in-Some.ensures.1.walk in
-    let nothing = subst (λ o. LeastOnward legs w.used w.end c.args.ends.to o) c.in_err-onward.ensures.ok_part c.least_onward.ensures in
+    let nothing = rw c.in_err-onward.ensures.ok_part at c.least_onward.ensures in
     let p = err_from_is_err_and c.from_residual.result c.from_residual.ensures.1 in
     let v = c.in_err-onward.ensures.value in
     let n = c.in_err-onward.ensures.ok_part in
@@ -40,7 +38,7 @@ overflow_add-result c =
     let s = c.args.snapshot.now in
     let w = c.in-Some.walked in
     let walked = c.in-Some.ensures in
-    let onward = subst (λ o. LeastOnward (legs_of s) w.used w.end c.args.ends.to o) c.in_ok-onward.ensures.ok_part c.least_onward.ensures in
+    let onward = rw c.in_ok-onward.ensures.ok_part at c.least_onward.ensures in
     let small = nearest_small (legs_of s) c.args.ends.from c.args.ends.to c.args.chain.now w.end w.used walked.1.walk c.in_ok-onward.onward onward (snapshot_charted s) walked.0 w.high walked.1.sums in
     omega arith
 
@@ -52,8 +50,8 @@ found c =
     let w = c.in-Some.walked in
     let ks = c.args.chain.now in
     let along = c.in-Some.ensures.1 in
-    let onward = subst (λ o. LeastOnward legs w.used w.end ends.to o) c.in_ok-onward.ensures.ok_part c.least_onward.ensures in
-    let braced = subst (λ o. BracedTime (trip legs ends.from ends.to) ks o) c.in_ok-braced.ensures.ok_part (c.braced_time.ensures ks along) in
+    let onward = rw c.in_ok-onward.ensures.ok_part at c.least_onward.ensures in
+    let braced = rw c.in_ok-braced.ensures.ok_part at (c.braced_time.ensures ks along) in
     floor_found legs ends.from ends.to ks w along c.in_ok-onward.onward onward c.in_ok-braced.braced braced
 
 pub overflow_sub-result : goal.overflow_sub-result

@@ -1,10 +1,8 @@
-use Rattle.std.proofs.Common.{rules}
 use Rattle.regret.proofs.Worsts.{worst_choice_gives_regret, regret_is_unique}
 use Rattle.regret.proofs.regrets.regret.Goals as goal
 
-pub returns : goal.returns
-returns g c = record {
-  answers = search rules;
-  worst_choice = worst_choice_gives_regret;
-  unique = regret_is_unique;
-}
+pub returns-clause-worst_choice : goal.returns-clause-worst_choice
+returns-clause-worst_choice g c = worst_choice_gives_regret
+
+pub returns-clause-unique : goal.returns-clause-unique
+returns-clause-unique g c = regret_is_unique

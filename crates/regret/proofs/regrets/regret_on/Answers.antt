@@ -1,15 +1,11 @@
-use Rattle.std.proofs.Common.{◌-◌, ◌≤◌, Ok, subst, arith}
+use Rattle.std.proofs.Common.{◌-◌, ◌≤◌, Ok, arith}
 use Rattle.std.proofs.lemmas.Result.{err_from_is_err_and}
-use Rattle.chart.specs.Kinds.{seconds_rule}
-use Rattle.chart.specs.Best.{BestTotal}
 use Rattle.chart.specs.Regret.{trip}
-use Rattle.search.specs.Snapshots.{fixes_of, legs_of}
+use Rattle.search.specs.Snapshots.{legs_of}
 use Rattle.search.specs.Sound.{snapshot_charted}
 use Rattle.chart.proofs.Chains.{leads_end}
 use Rattle.chart.proofs.Within.{route_leaves_fix}
 use Rattle.regret.specs.Answers.{RegretAnswer}
-use Rattle.regret.specs.Marked.{marked_times}
-use Rattle.regret.specs.Walks.{WalkedAlong}
 use Rattle.regret.proofs.Losing.{regret_found, not_a_route}
 use Rattle.regret.proofs.regrets.regret_on.Goals as goal
 
@@ -17,7 +13,7 @@ pub returns-in_err-walked : goal.returns-in_err-walked
 returns-in_err-walked c =
     let s = c.args.snapshot.now in
     let ends = c.args.ends in
-    let none = subst (λ o. WalkedAlong (fixes_of s) (legs_of s) ends.from c.args.list.now o) c.in_err-walked.ensures.ok_part c.walk.ensures in
+    let none = rw c.in_err-walked.ensures.ok_part at c.walk.ensures in
     let p = err_from_is_err_and c.from_residual.result c.from_residual.ensures.1 in
     rw p.1 (not_a_route (trip (legs_of s) ends.from ends.to) c.args.list.now _ (λ flies.
     none (route_leaves_fix (legs_of s) (snapshot_charted s) ends.from ends.to c.args.list.now flies) ends.to flies.chain))
@@ -25,7 +21,7 @@ returns-in_err-walked c =
 pub returns-then-walked-ends : goal.returns-then-walked-ends
 returns-then-walked-ends c flies =
     let s = c.args.snapshot.now in
-    let along = (subst (λ o. WalkedAlong (fixes_of s) (legs_of s) c.args.ends.from c.args.list.now o) c.in_ok-walked.ensures.ok_part c.walk.ensures).1 in
+    let along = (rw c.in_ok-walked.ensures.ok_part at c.walk.ensures).1 in
     c.if-walked-ends.true (leads_end (legs_of s) c.args.list.now c.args.ends.from c.in_ok-walked.walked.end c.args.ends.to along.walk.chain.leads flies.chain.leads)
 
 -- where both calls found something
@@ -34,8 +30,8 @@ found c =
     let s = c.args.snapshot.now in
     let ends = c.args.ends in
     let w = c.in_ok-walked.walked in
-    let along = subst (λ o. WalkedAlong (fixes_of s) (legs_of s) ends.from c.args.list.now o) c.in_ok-walked.ensures.ok_part c.walk.ensures in
-    let best = subst (λ o. BestTotal (seconds_rule (marked_times w.marks)) (legs_of s) ends.from ends.to o) c.in_ok-best.ensures.ok_part c.best_on.ensures in
+    let along = rw c.in_ok-walked.ensures.ok_part at c.walk.ensures in
+    let best = rw c.in_ok-best.ensures.ok_part at c.best_on.ensures in
     regret_found (legs_of s) ends.from ends.to c.args.list.now w along.1 c.if-walked-ends.false c.in_ok-best.best best
 
 pub overflow_sub-result : goal.overflow_sub-result
