@@ -13,6 +13,10 @@ use Rattle.reader.specs.declared.cursor.Cursor.{Cursor}
 abbrev pub rest_of : Cursor → List ℕ
 rest_of c = drop c.place c.file.now
 
+-- the cursor stands in the file or at its end
+abbrev pub Inside : Cursor → Type 0
+Inside c = c.place ≤ length c.file.now
+
 -- the first of these checks that fails is the fault e at the place where the cursor was, and is again
 pub record Refuses (checks : List Check) (e : ChartFault) (was is : ℕ) : Type 0 where
   pub fails : Fails checks was (chart_report e)

@@ -3,7 +3,7 @@ ghost use Rattle.std.specs.Prelude.{◌≡◌, ℕ, ◌+◌, ◌*◌, ◌<◌, �
 ghost use Rattle.records.specs.Reports.{chart_report};
 ghost use Rattle.records.specs.Checks.{body, legs_in, leg_in};
 ghost use Rattle.records.specs.Faults.{Owed};
-ghost use Rattle.reader.specs.Places.{Naming, Along, Ended, Stops, StopsAlong, Filled, Checked};
+ghost use Rattle.reader.specs.Places.{Inside, Naming, Along, Ended, Stops, StopsAlong, Filled, Checked};
 
 use super::counts::Counts;
 use super::cursor::Cursor;
@@ -44,7 +44,7 @@ impl Cursor<'_> {
 
     // The legs, one after the other.
     fn read_legs(&mut self, counts: Counts) -> Result<(), ChartFault>
-        requires { self.old.place ≤ length self.old.file.now }
+        requires { Inside self.old }
         ensures same_file { self.new.file ≡ self.old.file }
         ensures reads { MatchResult result
             (λ _. Along self.old.file.now self.new.place counts.fixes counts.legs self.old.place counts.legs)
@@ -58,7 +58,7 @@ impl Cursor<'_> {
 
     // The legs, the end record, and that nothing follows it.
     fn read_legs_to_end(&mut self, counts: Counts) -> Result<(), ChartFault>
-        requires { self.old.place ≤ length self.old.file.now }
+        requires { Inside self.old }
         ensures same_file { self.new.file ≡ self.old.file }
         ensures reads { MatchResult result
             (λ _. Ended self.old.file.now counts.fixes counts.legs self.old.place self.new.place)

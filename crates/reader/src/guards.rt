@@ -1,8 +1,7 @@
 // A guard over the cursor's place: it puts the place back at every way out, unless the record was accepted.
 ghost use Rattle.std.specs.Prelude.{◌≡◌, Some, None, unwrap_or};
 
-// It holds the place alone, and not the cursor: what becomes of a cursor behind a reference in a struct is not proved, since the
-// cursor holds a reference itself.
+// With `&mut Cursor<'_>` in place of `&mut usize` nothing was proved of the cursor after the drop, since its type names a lifetime.
 pub(crate) struct Guard<'r> {
     place: &'r mut usize,
     // The place to go back to, until the record is accepted.

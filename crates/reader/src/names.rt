@@ -17,7 +17,8 @@ pub(crate) fn name_at(file: &[u8], at: usize) -> &[u8]
     &body[1..1 + len]
 }
 
-// Whether the name is none of those whose records stand at these places.
+// Whether the name is none of those whose records stand at these places. With `all` in place of the loop it was not proved that
+// its closure may be called, since `name_at` requires that a record stands at the place.
 pub(crate) fn is_fresh(file: &[u8], starts: &[usize], name: &[u8]) -> bool
     requires { Stand file.now starts.now }
     ensures { Decides result (Fresh (names_at file.now starts.now) name.now) }

@@ -2,7 +2,7 @@
 // where it is refused.
 ghost use Rattle.std.specs.Prelude.{◌≡◌, ℕ, ◌+◌, ◌<◌, ◌≤◌, length, MatchResult};
 ghost use Rattle.records.specs.Checks.{Pass, byte, body, fixes_in, legs_in, chart_checks, fix_checks, leg_checks, end_checks};
-ghost use Rattle.reader.specs.Places.{rest_of, Stand, Refuses, names_at};
+ghost use Rattle.reader.specs.Places.{rest_of, Inside, Stand, Refuses, names_at};
 
 use super::counts::Counts;
 use super::cursor::Cursor;
@@ -16,7 +16,7 @@ use records::sizes::{CHART_BODY, LEG_BODY, MARK_BYTES};
 impl Cursor<'_> {
     // The chart's record: the numbers of fixes and of legs, where there is room for so many legs.
     pub(crate) fn read_chart(&mut self, room: usize) -> Result<Counts, ChartFault>
-        requires { self.old.place ≤ length self.old.file.now }
+        requires { Inside self.old }
         ensures same_file { self.new.file ≡ self.old.file }
         ensures reads { MatchResult result
             (λ n. Pass (chart_checks room (rest_of self.old))
@@ -40,7 +40,8 @@ impl Cursor<'_> {
 
     // A fix's record, after those at these places.
     pub(crate) fn read_fix(&mut self, starts: &[usize]) -> Result<(), ChartFault>
-        requires { (self.old.place ≤ length self.old.file.now) × Stand self.old.file.now starts.now }
+        requires inside { Inside self.old }
+        requires stand { Stand self.old.file.now starts.now }
         ensures same_file { self.new.file ≡ self.old.file }
         ensures reads { MatchResult result
             (λ _. Pass (fix_checks (names_at self.old.file.now starts.now) (rest_of self.old))
@@ -48,13 +49,12 @@ impl Cursor<'_> {
             (λ e. Refuses (fix_checks (names_at self.old.file.now starts.now) (rest_of self.old)) e self.old.place self.new.place) }
     {
         let rest = self.rest();
-        let file = self.file;
         let mut guard = Guard::new(&mut self.place);
         let body = rest.due(RecordKind::Fix)?;
         let Record::Fix { name } = body.record(RecordKind::Fix)? else {
             unreachable!();
         };
-        if !is_fresh(file, starts, name) {
+        if !is_fresh(self.file, starts, name) {
             return Err(ChartFault::NameUsed { place: rest.place });
         }
         guard.accept(rest.place + MARK_BYTES + 1 + name.len());
@@ -63,7 +63,7 @@ impl Cursor<'_> {
 
     // A leg's record, in a chart of `n` fixes.
     pub(crate) fn read_leg(&mut self, n: u16) -> Result<(), ChartFault>
-        requires { self.old.place ≤ length self.old.file.now }
+        requires { Inside self.old }
         ensures same_file { self.new.file ≡ self.old.file }
         ensures reads { MatchResult result
             (λ _. Pass (leg_checks n (rest_of self.old))
@@ -85,7 +85,7 @@ impl Cursor<'_> {
 
     // The end record.
     pub(crate) fn read_end(&mut self) -> Result<(), ChartFault>
-        requires { self.old.place ≤ length self.old.file.now }
+        requires { Inside self.old }
         ensures same_file { self.new.file ≡ self.old.file }
         ensures reads { MatchResult result
             (λ _. Pass (end_checks (rest_of self.old))

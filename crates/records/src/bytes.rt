@@ -3,7 +3,8 @@ ghost use Rattle.std.specs.Prelude.{◌≡◌, ℕ, ◌<◌, ◌≤◌, [], ◌�
 ghost use Rattle.records.specs.declared.kinds.RecordKind.{RecordKind};
 ghost use Rattle.records.specs.Format.{mark};
 ghost use Rattle.records.specs.Reports.{bytes_report, Fails};
-ghost use Rattle.records.specs.Checks.{Marked, mark_checks, body};
+ghost use Rattle.records.specs.Checks.{Marked, mark_checks};
+ghost use Rattle.records.specs.Bodies.{IsBody};
 
 use super::faults::BytesFault;
 use super::kinds::RecordKind;
@@ -39,7 +40,7 @@ impl<'a> Part<'a> {
     // The kind of the record whose mark these bytes begin with, and its body.
     pub fn opened(&self) -> Result<(RecordKind, Part<'a>), BytesFault>
         ensures { MatchResult result
-            (λ k. (2 ≤ length self.now.bytes.now) × Marked k.0 self.now.bytes.now × (k.1.bytes.now ≡ body self.now.bytes.now) × (k.1.place ≡ self.now.place))
+            (λ k. (2 ≤ length self.now.bytes.now) × Marked k.0 self.now.bytes.now × IsBody self.now k.1)
             (λ e. Fails (mark_checks self.now.bytes.now) self.now.place (bytes_report e)) }
     {
         let Part { bytes, place } = *self;
