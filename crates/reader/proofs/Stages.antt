@@ -10,7 +10,7 @@ use Rattle.records.specs.Format.{Name, chart_bytes, fix_bytes, end_bytes, openin
 use Rattle.records.specs.Reports.{chart_report}
 use Rattle.records.specs.Checks.{Pass, byte, AllBytes, body, name_in, leg_in, fixes_in, legs_in, chart_checks, fix_checks, leg_checks, end_checks}
 use Rattle.records.specs.Faults.{Begins, Owes, at_fix, at_leg, at_end, after_end, Finds, Owed}
-use Rattle.reader.specs.Places.{Refuses, FixAt, Indexed, names_at, legs_at, Naming, Legging, Stops}
+use Rattle.reader.specs.Places.{Refuses, FixBodyAt, Indexed, names_at, legs_at, Naming, Legging, Stops}
 use Rattle.reader.proofs.NamesAt.{names_push, names_length}
 use Rattle.reader.proofs.Openings.{begins_chart, begins_fix, begins_leg, end_split, push_all}
 
@@ -80,7 +80,7 @@ module _ {file : List ℕ} {p n m : ℕ} {starts : List ℕ} (r : Naming file p 
       record {
         begins = subst₂ (λ x ns. Begins file x n m ns [] (drop x file)) (sym e) (sym same_names) more;
         inside = omega (arith, r.inside);
-        stand = push_all (FixAt file) 0 starts p r.stand (r.inside, pass.1.1.1.0.0, pass.1.1.1.0.1);
+        stand = push_all (FixBodyAt file) 0 starts p r.stand (r.inside, pass.1.1.1.0.0, pass.1.1.1.0.1);
         indexed = next_indexed;
       }
 

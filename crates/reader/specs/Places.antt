@@ -23,12 +23,12 @@ pub record Refuses (checks : List Check) (e : ChartFault) (was is : ℕ) : Type 
   pub again : is ≡ was
 
 -- the body of a fix's record is complete after its mark at the place p
-abbrev pub FixAt : List ℕ → ℕ → Type 0
-FixAt file p = (p ≤ length file) × (1 ≤ length (body (drop p file))) × (1 + byte (body (drop p file)) 0 ≤ length (body (drop p file)))
+abbrev pub FixBodyAt : List ℕ → ℕ → Type 0
+FixBodyAt file p = (p ≤ length file) × (1 ≤ length (body (drop p file))) × (1 + byte (body (drop p file)) 0 ≤ length (body (drop p file)))
 
 -- and at each of these places
-abbrev pub Stand : List ℕ → List ℕ → Type 0
-Stand file starts = (i : ℕ) → i < length starts → FixAt file (slice_index starts i)
+abbrev pub BodiesAt : List ℕ → List ℕ → Type 0
+BodiesAt file starts = (i : ℕ) → i < length starts → FixBodyAt file (slice_index starts i)
 
 -- the names whose records stand at the places given
 abbrev pub names_at : List ℕ → List ℕ → List Name
@@ -48,7 +48,7 @@ Indexed file starts = (i : ℕ) → i < length starts → slice_index starts i +
 pub record Naming (file : List ℕ) (p n m : ℕ) (starts : List ℕ) : Type 0 where
   pub begins : Begins file p n m (names_at file starts) [] (drop p file)
   pub inside : p ≤ length file
-  pub stand : Stand file starts
+  pub stand : BodiesAt file starts
   pub indexed : Indexed file starts
 
 -- the cursor stands at p, after all the names and k of the legs, which begin at the place base
@@ -88,7 +88,7 @@ pub record Checked (file : List ℕ) (room : ℕ) (starts : List ℕ) (n m base 
   pub means : Means file (names_at file starts) (legs_at file base m)
   pub most : n ≤ max_fixes
   pub whole : length starts ≡ n
-  pub stand : Stand file starts
+  pub stand : BodiesAt file starts
   pub indexed : Indexed file starts
   pub within : base + 14 * m ≤ length file
   pub fits : m ≤ room

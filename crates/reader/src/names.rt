@@ -2,14 +2,14 @@
 ghost use Rattle.std.specs.Prelude.{◌≡◌, ℕ, ◌<◌, ◌≤◌, length, drop, Decides};
 ghost use Rattle.records.specs.Format.{Fresh};
 ghost use Rattle.records.specs.Checks.{name_in, body};
-ghost use Rattle.reader.specs.Places.{FixAt, Stand, names_at};
+ghost use Rattle.reader.specs.Places.{FixBodyAt, BodiesAt, names_at};
 
 use records::bytes::onward;
 use records::sizes::MARK_BYTES;
 
 // The name in the fix record at a place.
 pub(crate) fn name_at(file: &[u8], at: usize) -> &[u8]
-    requires { FixAt file.now at }
+    requires { FixBodyAt file.now at }
     ensures { result.now ≡ name_in (body (drop at file.now)) }
 {
     let body = onward(onward(file, at), MARK_BYTES);
@@ -20,7 +20,7 @@ pub(crate) fn name_at(file: &[u8], at: usize) -> &[u8]
 // Whether the name is none of those whose records stand at these places. With `all` in place of the loop it was not proved that
 // its closure may be called, since `name_at` requires that a record stands at the place.
 pub(crate) fn is_fresh(file: &[u8], starts: &[usize], name: &[u8]) -> bool
-    requires { Stand file.now starts.now }
+    requires { BodiesAt file.now starts.now }
     ensures { Decides result (Fresh (names_at file.now starts.now) name.now) }
 {
     for at in starts {

@@ -2,7 +2,7 @@
 ghost use Rattle.std.specs.Prelude.{◌≡◌, ℕ, ◌≤◌};
 ghost use Rattle.chart.specs.Limits.{max_fixes};
 ghost use Rattle.arrayvec.specs.ArrayVec.{array_vec_len};
-ghost use Rattle.reader.specs.Places.{Stand, Indexed};
+ghost use Rattle.reader.specs.Places.{BodiesAt, Indexed};
 
 use super::cursor::Cursor;
 use arrayvec::ArrayVec;
@@ -14,6 +14,6 @@ pub struct Reader<'a> {
     pub cursor: Cursor<'a>,
     pub starts: ArrayVec<usize, MAX_FIXES>,
     ghost most: { array_vec_len starts ≤ max_fixes },
-    ghost stand: { Stand cursor.file.now starts.items },
+    ghost stand: { BodiesAt cursor.file.now starts.items },
     ghost indexed: { Indexed cursor.file.now starts.items },
 }

@@ -2,7 +2,7 @@
 // where it is refused.
 ghost use Rattle.std.specs.Prelude.{◌≡◌, ℕ, ◌+◌, ◌<◌, ◌≤◌, length, MatchResult};
 ghost use Rattle.records.specs.Checks.{Pass, byte, body, fixes_in, legs_in, chart_checks, fix_checks, leg_checks, end_checks};
-ghost use Rattle.reader.specs.Places.{rest_of, Inside, Stand, Refuses, names_at};
+ghost use Rattle.reader.specs.Places.{rest_of, Inside, BodiesAt, Refuses, names_at};
 
 use super::counts::Counts;
 use super::cursor::Cursor;
@@ -41,7 +41,7 @@ impl Cursor<'_> {
     // A fix's record, after those at these places.
     pub(crate) fn read_fix(&mut self, starts: &[usize]) -> Result<(), ChartFault>
         requires inside { Inside self.old }
-        requires stand { Stand self.old.file.now starts.now }
+        requires stand { BodiesAt self.old.file.now starts.now }
         ensures same_file { self.new.file ≡ self.old.file }
         ensures reads { MatchResult result
             (λ _. Pass (fix_checks (names_at self.old.file.now starts.now) (rest_of self.old))
