@@ -3,9 +3,10 @@ ghost use Rattle.std.specs.Prelude.{◌≡◌, MatchBool, MatchResult, ◌≢◌
 ghost use Rattle.chart.specs.Rows.{plain, Counted, Timed, Placed, RowOwes};
 
 use super::leg::Leg;
-use super::limits::{MAX_FIXES, MAX_LEGS, MAX_LEVEL, MAX_SECONDS, MIN_FIXES};
+use super::limits::{MAX_FIXES, MAX_LEGS, MAX_LEVEL, MIN_FIXES};
 use super::refusals::RowRefusal;
 use super::row::Row;
+use super::step::Interval;
 
 // Whether a chart may have so many fixes and legs.
 pub fn are_counts(fixes: u16, legs: usize) -> bool
@@ -19,7 +20,8 @@ impl Row {
     pub fn is_timed(&self) -> bool
         ensures { MatchBool result (Timed self.now) (Timed self.now → ⊥) }
     {
-        self.low <= self.high && self.high <= MAX_SECONDS && self.top <= MAX_LEVEL
+        let Row { low, high, .. } = *self;
+        Interval { low, high }.is_span() && self.top <= MAX_LEVEL
     }
 
     // Whether the row joins two different fixes of a chart that has `n`.
@@ -42,7 +44,7 @@ impl Row {
         Ok(self.as_leg())
     }
 
-    // The leg that has the numbers of this row.
+    // The leg that has the numbers of this row. It is no `From`, since that can't ask for a row within its limits.
     pub(crate) fn as_leg(&self) -> Leg
         requires timed { Timed self.now }
         requires apart { self.now.from ≢ self.now.to }

@@ -17,7 +17,8 @@ pub trait Choice {
         ensures { result ≡ times self.now k leg.now };
 }
 
-// Every leg takes its high time.
+// Every leg takes its high time. This choice and the next are two types, since one with a flag would say less by its name; the
+// trait has the laws of both.
 #[derive(Clone, Copy)]
 pub struct Highs;
 

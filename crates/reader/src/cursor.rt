@@ -4,7 +4,8 @@ ghost use Rattle.records.specs.Checks.{AllBytes};
 
 use records::bytes::{Part, onward};
 
-// A file, and a place in it: the number of bytes before the place.
+// A file, and a place in it: the number of bytes before the place. Anyone may write any place, so it is no invariant that the
+// place lies in the file.
 #[derive(Clone, Copy, Debug, PartialEq, Eq)]
 pub struct Cursor<'a> {
     pub file: &'a [u8],

@@ -79,7 +79,7 @@ impl<'a> Part<'a> {
         Ok(Record::Leg { row })
     }
 
-    // The record of this kind in a body.
+    // The record of this kind in a body. The kinds are matched, since the format gives each a body of its own.
     pub fn record(&self, kind: RecordKind) -> Result<Record<'a>, RecordFault>
         ensures { MatchResult result
             (λ x. Pass (body_checks kind self.now.bytes.now) × Says kind self.now.bytes.now x)

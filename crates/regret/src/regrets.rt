@@ -13,7 +13,7 @@ use chart::kinds::Seconds;
 use search::best::best_on;
 use search::snapshot::Snapshot;
 
-// The regret of a list of legs between two ends, on a snapshot.
+// The regret of a list of legs between two ends, on a snapshot that serves many questions.
 pub fn regret_on(snapshot: &Snapshot, ends: Ends, list: &[u16]) -> Result<u32, RegretRefusal>
     ensures { RegretAnswer (trip (legs_of snapshot.now) ends.from ends.to) list.now result }
 {

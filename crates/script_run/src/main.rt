@@ -1,4 +1,4 @@
-// The program on a script file.
+// The program on a script file. It is a crate of its own, since a crate is run on one input.
 #![tactic(auto)]
 
 use console::run::run;

@@ -33,7 +33,7 @@ impl<'a, K: Kind> Search<'a, K> {
 }
 
 // The best total over all routes of a snapshot between two ends; none where there is no route, as between
-// numbers that are no fixes, or from a fix to itself.
+// numbers that are no fixes, or from a fix to itself. It stands beside `best` so that one snapshot serves many questions.
 pub fn best_on<K: Kind>(snapshot: &Snapshot, kind: &K, ends: Ends) -> Option<K::Total>
     ensures { BestTotal (K.rule kind.now) (legs_of snapshot.now) ends.from ends.to result }
 {

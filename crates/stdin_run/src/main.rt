@@ -1,4 +1,4 @@
-// The program on the commands of standard input.
+// The program on the commands of standard input. It is a crate of its own, since a crate is run on one input.
 #![tactic(auto)]
 
 use console::run::run;
