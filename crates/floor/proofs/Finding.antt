@@ -1,5 +1,6 @@
 -- The floor of a chain from what was found of it: its high time, the least high time onward, and the braced time.
-use Rattle.std.proofs.Common.{ℕ, ◌+◌, ◌-◌, ◌≤◌, List, Ok, arith}
+use Rattle.floor.specs.declared.refusals.FloorRefusal.{FloorRefusal}
+use Rattle.std.proofs.Common.{ℕ, ◌+◌, ◌-◌, ◌≤◌, List, Ok, arith, Err, None, Option, ok_or, ap, ◌∙◌, Result, ◌≡◌}
 use Rattle.chart.specs.declared.leg.Leg.{Leg}
 use Rattle.chart.specs.Regret.{trip}
 use Rattle.chart.specs.Floors.{Nearest}
@@ -25,3 +26,7 @@ module _ (legs : List Leg) (s t : ℕ) (ks : List ℕ) (w : Walked) (along : Alo
           record { a = w.high + x; b = b; v = braced.choice; nearest = near; braced = braced.braced; least = braced.least; over = omega arith },
         ),
       )
+
+-- what a call returns early that has no value, where the refusal is k
+pub refused : {A : Type 0} (r : Result ℕ FloorRefusal) (y e u k : FloorRefusal) (o : Option A) → r ≡ Err y → y ≡ e → ◌≡◌ {A = Result A FloorRefusal} (Err e) (ok_or o u) → o ≡ None → u ≡ k → r ≡ Err k
+refused {A = A} r y e u k o is same v n i = let f : ◌≡◌ {A = Result A FloorRefusal} (Err e) (Err u) = v ∙ ap (λ x. ok_or x u) n in cc

@@ -1,6 +1,5 @@
 // The least time of any route where the legs that a chain shuts take their low time and all others their high.
-ghost use Rattle.std.specs.Prelude.{◌≡◌, length};
-ghost use Rattle.chart.specs.Limits.{max_legs};
+ghost use Rattle.std.specs.Prelude.{length};
 ghost use Rattle.chart.specs.Regret.{trip};
 ghost use Rattle.search.specs.Snapshots.{legs_of};
 ghost use Rattle.floor.specs.Braces.{UsedBeside, TellsShut, MarksUnshut, BracedBy};
@@ -32,16 +31,17 @@ fn is_shut(departure: u16, walked: &Walked, k: u16, leg: Leg) -> bool
             || is_used_beside(&walked.used, departure, leg.to))
 }
 
-// Marks every leg that is not shut. A leg's number is also the place of its mark.
-fn mark_unshut(snapshot: &Snapshot, departure: u16, walked: &Walked, marks: &mut [bool])
-    requires { length marks.old ≡ max_legs }
-    ensures { MarksUnshut (legs_of snapshot.now) departure walked.now marks.new (length (legs_of snapshot.now)) }
+// A mark on every leg that is not shut. A leg's number is also the place of its mark.
+fn unshut_marks(snapshot: &Snapshot, departure: u16, walked: &Walked) -> [bool; MAX_LEGS]
+    ensures { MarksUnshut (legs_of snapshot.now) departure walked.now result (length (legs_of snapshot.now)) }
 {
+    let mut marks = [false; MAX_LEGS];
     for k in 0..snapshot.m() {
         marks[k as usize] = !snapshot
             .leg(k)
             .is_some_and(|leg| is_shut(departure, walked, k, leg));
     }
+    marks
 }
 
 // The least time of any route between two ends where the legs that the chain shuts take their low time and all others
@@ -49,8 +49,7 @@ fn mark_unshut(snapshot: &Snapshot, departure: u16, walked: &Walked, marks: &mut
 pub(crate) fn braced_time(snapshot: &Snapshot, ends: Ends, walked: &Walked) -> Option<u32>
     ensures { BracedBy (trip (legs_of snapshot.now) ends.from ends.to) walked.now result }
 {
-    let mut marks = [false; MAX_LEGS];
-    mark_unshut(snapshot, ends.from, walked, &mut marks);
+    let marks = unshut_marks(snapshot, ends.from, walked);
     let braced = Seconds {
         choice: Marked { marks: &marks },
     };

@@ -17,13 +17,13 @@ use search::snapshot::Snapshot;
 pub fn floor_on(snapshot: &Snapshot, ends: Ends, chain: &[u16]) -> Result<u32, FloorRefusal>
     ensures { FloorAnswer (trip (legs_of snapshot.now) ends.from ends.to) chain.now result }
 {
-    let Some(walked) = walk(snapshot, ends.from, chain) else {
-        // The empty list is a chain from every number: where it was not walked along, the departure is no fix.
-        if chain.is_empty() {
-            return Err(FloorRefusal::NoRoute);
-        }
-        return Err(FloorRefusal::NotAChain);
+    // The empty list is a chain from every number: where it is not walked along, the departure is no fix.
+    let unwalked = if chain.is_empty() {
+        FloorRefusal::NoRoute
+    } else {
+        FloorRefusal::NotAChain
     };
+    let walked = walk(snapshot, ends.from, chain).ok_or(unwalked)?;
     let rest = Ends {
         from: walked.end,
         to: ends.to,

@@ -1,5 +1,5 @@
 // A route that was found: how many of the first places of the memory its legs take, and its regret. The memory is lent,
-// since a call takes none of its own.
+// since no call takes any from a heap.
 #[derive(Clone, Copy, Debug, PartialEq, Eq)]
 pub struct Found {
     pub legs: u16,

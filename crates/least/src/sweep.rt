@@ -22,7 +22,8 @@ impl Best {
     }
 }
 
-// The search stands at the end of a chain. A flag for each fix that the chain meets is a set that takes no memory of its own.
+// The search stands at the end of a chain. The fixes that the chain meets are flagged: a set of fixed size, since no call
+// takes memory from a heap.
 #[derive(Drop)]
 pub(crate) struct Sweep<'a> {
     pub(crate) snapshot: &'a Snapshot,

@@ -5,7 +5,8 @@ ghost use Rattle.chart.specs.Limits.{max_fixes, max_legs};
 use chart::leg::Leg;
 use chart::limits::{MAX_FIXES, MAX_LEGS};
 
-// Where it ends, the sum of its high times, a flag for each fix that it meets, and a mark for each of its legs.
+// Where it ends, the sum of its high times, a flag for each fix that it meets, and a mark for each of its legs: sets of
+// fixed size, since no call takes memory from a heap.
 #[derive(Clone, Copy)]
 pub struct Walked {
     pub end: u16,

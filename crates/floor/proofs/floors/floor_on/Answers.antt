@@ -4,52 +4,61 @@ use Rattle.std.proofs.lemmas.Result.{err_from_is_err_and}
 use Rattle.chart.specs.Regret.{trip}
 use Rattle.search.specs.Snapshots.{legs_of}
 use Rattle.search.specs.Sound.{snapshot_charted}
-use Rattle.floor.specs.declared.refusals.FloorRefusal.TheVariants.{NoRoute}
+use Rattle.floor.specs.declared.refusals.FloorRefusal.TheVariants.{NotAChain, NoRoute}
 use Rattle.floor.specs.Answers.{FloorAnswer}
 use Rattle.floor.proofs.Beginning.{none_begins, nearest_small, empty_no_route, some_no_chain}
-use Rattle.floor.proofs.Finding.{floor_found}
+use Rattle.floor.proofs.Finding.{floor_found, refused}
 use Rattle.floor.proofs.floors.floor_on.Goals as goal
+use Rattle.floor.proofs.floors.floor_on.Goals.{then-is_empty, else-is_empty}
 
-pub returns-then-is_empty : goal.returns-then-is_empty
-returns-then-is_empty c =
+pub returns-in_err-walked : goal.returns-in_err-walked
+returns-in_err-walked c =
     let s = c.args.snapshot.now in
-    empty_no_route (legs_of s) (snapshot_charted s) c.args.ends.from c.args.ends.to c.args.chain.now c.in_default.ensures (eqb-true _ _ (sym c.if-is_empty.ensures))
-
-pub returns-in_default : goal.returns-in_default
-returns-in_default c =
-    let s = c.args.snapshot.now in
-    let some = eqb-false _ _ (sym c.if-is_empty.ensures) in
-    some_no_chain (legs_of s) (snapshot_charted s) c.args.ends.from c.args.ends.to c.args.chain.now c.in_default.ensures (omega arith)
+    let ends = c.args.ends in
+    let ks = c.args.chain.now in
+    let none = rw c.in_err-walked.ensures.ok_part at c.walk.ensures in
+    let p = err_from_is_err_and c.from_residual.result c.from_residual.ensures.1 in
+    let v = c.in_err-walked.ensures.value in
+    let n = c.in_err-walked.ensures.ok_part in
+    elim c.if-is_empty.branch [
+      | then-is_empty w ↦
+          let is = refused c.from_residual.result p.0 _ c.if-is_empty.unwalked NoRoute c.walk.result p.1 p.2 v n w.unwalked-is in
+          rw is (empty_no_route (legs_of s) (snapshot_charted s) ends.from ends.to ks none (eqb-true _ _ (sym w.if-is_empty.ensures)))
+      | else-is_empty w ↦
+          let is = refused c.from_residual.result p.0 _ c.if-is_empty.unwalked NotAChain c.walk.result p.1 p.2 v n w.unwalked-is in
+          let some = eqb-false _ _ (sym w.if-is_empty.ensures) in
+          rw is (some_no_chain (legs_of s) (snapshot_charted s) ends.from ends.to ks none (omega arith))
+    ]
 
 pub returns-in_err-onward : goal.returns-in_err-onward
 returns-in_err-onward c =
     let legs = legs_of c.args.snapshot.now in
-    let w = c.in-Some.walked in
-    let walk = c.in-Some.ensures.1.walk in
+    let w = c.in_ok-walked.walked in
+    let walk = (rw c.in_ok-walked.ensures.ok_part at c.walk.ensures).1.walk in
     let nothing = rw c.in_err-onward.ensures.ok_part at c.least_onward.ensures in
-    let p = err_from_is_err_and c.from_residual.result c.from_residual.ensures.1 in
+    let p = err_from_is_err_and c.from_residual-in_err-onward.result c.from_residual-in_err-onward.ensures.1 in
     let v = c.in_err-onward.ensures.value in
     let n = c.in_err-onward.ensures.ok_part in
-    let is : c.from_residual.result ≡ Err NoRoute = cc (p.1, p.2, v, n) in
+    let is : c.from_residual-in_err-onward.result ≡ Err NoRoute = cc (p.1, p.2, v, n) in
     rw is ((w.end, walk.chain), none_begins legs c.args.ends.from c.args.ends.to c.args.chain.now w.end w.used walk nothing)
 
 pub overflow_add-result : goal.overflow_add-result
 overflow_add-result c =
     let s = c.args.snapshot.now in
-    let w = c.in-Some.walked in
-    let walked = c.in-Some.ensures in
+    let w = c.in_ok-walked.walked in
+    let walked = (rw c.in_ok-walked.ensures.ok_part at c.walk.ensures) in
     let onward = rw c.in_ok-onward.ensures.ok_part at c.least_onward.ensures in
     let small = nearest_small (legs_of s) c.args.ends.from c.args.ends.to c.args.chain.now w.end w.used walked.1.walk c.in_ok-onward.onward onward (snapshot_charted s) walked.0 w.high walked.1.sums in
     omega arith
 
 -- where all three calls found something
-found : (c : goal.In_ok-braced) → (c.in_ok-braced.braced ≤ c.in-Some.walked.high + c.in_ok-onward.onward) × FloorAnswer (trip (legs_of c.args.snapshot.now) c.args.ends.from c.args.ends.to) c.args.chain.now (Ok (c.in-Some.walked.high + c.in_ok-onward.onward - c.in_ok-braced.braced))
+found : (c : goal.In_ok-braced) → (c.in_ok-braced.braced ≤ c.in_ok-walked.walked.high + c.in_ok-onward.onward) × FloorAnswer (trip (legs_of c.args.snapshot.now) c.args.ends.from c.args.ends.to) c.args.chain.now (Ok (c.in_ok-walked.walked.high + c.in_ok-onward.onward - c.in_ok-braced.braced))
 found c =
     let legs = legs_of c.args.snapshot.now in
     let ends = c.args.ends in
-    let w = c.in-Some.walked in
+    let w = c.in_ok-walked.walked in
     let ks = c.args.chain.now in
-    let along = c.in-Some.ensures.1 in
+    let along = (rw c.in_ok-walked.ensures.ok_part at c.walk.ensures).1 in
     let onward = rw c.in_ok-onward.ensures.ok_part at c.least_onward.ensures in
     let braced = rw c.in_ok-braced.ensures.ok_part at (c.braced_time.ensures ks along) in
     floor_found legs ends.from ends.to ks w along c.in_ok-onward.onward onward c.in_ok-braced.braced braced
