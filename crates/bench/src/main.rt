@@ -15,43 +15,49 @@ use std::time::Instant;
 
 const CALLS: u16 = 2000;
 
-// The next of a row of numbers without pattern.
-fn turn(x: u32) -> u32 {
-    x.wrapping_mul(1664525).wrapping_add(1013904223)
+// Numbers without pattern, the same on every run.
+#[derive(Drop)]
+struct Numbers {
+    last: u32,
 }
 
-fn interval(x: u32) -> Interval {
-    Interval {
-        low: 0,
-        high: 1000 + x / 65536,
+impl Numbers {
+    // The next number, of 16 bits.
+    fn draw(&mut self) -> u32 {
+        self.last = self.last.wrapping_mul(1664525).wrapping_add(1013904223);
+        self.last / 65536
+    }
+
+    fn interval(&mut self) -> Interval {
+        Interval {
+            low: 0,
+            high: 1000 + self.draw() % 65536,
+        }
     }
 }
 
 fn fill_steps(steps: &mut [Step]) {
-    let mut x = 7u32;
+    let mut numbers = Numbers { last: 7 };
     for step in steps.iter_mut() {
-        let a = turn(x);
-        let b = turn(a);
-        x = turn(b);
+        let back = numbers.interval();
+        let ahead = numbers.interval();
+        let on = numbers.interval();
         *step = Step {
-            turns: [interval(a), interval(b), interval(x)],
+            turns: [back, ahead, on],
         };
     }
 }
 
 fn fill_rows(rows: &mut [Row]) {
-    let mut x = 11u32;
+    let mut numbers = Numbers { last: 11 };
     for row in rows.iter_mut() {
-        x = turn(x);
-        let from = (x / 65536) % 200;
-        x = turn(x);
-        let on = (x / 65536) % 199;
-        x = turn(x);
+        let from = numbers.draw() % 200;
+        let to = (from + 1 + numbers.draw() % 199) % 200;
         *row = Row {
             from: from as u16,
-            to: ((from + 1 + on) % 200) as u16,
+            to: to as u16,
             low: 0,
-            high: 1000 + x / 65536,
+            high: 1000 + numbers.draw() % 65536,
             top: 390,
             standing: Standing::Open,
         };
@@ -85,8 +91,9 @@ fn time<C: Chart>(rt: &HostRuntime, name: &str, chart: &C) -> io::Result<()> {
 }
 
 fn main(rt: HostRuntime) -> io::Result<()> {
+    let still = Interval { low: 0, high: 0 };
     let mut steps = [Step {
-        turns: [interval(0), interval(0), interval(0)],
+        turns: [still, still, still],
     }; 19];
     fill_steps(&mut steps);
     if let Ok(lattice) = Lattice::new(10, 20, 390, &steps) {

@@ -46,12 +46,12 @@ fn are_timed(steps: &[Step]) -> bool
     steps.iter().all(|step| step.is_timed())
 }
 
-// Copies the steps to the front of the row.
-fn copy_steps(steps: &[Step], row: &mut [Step])
-    requires { length steps.now ≤ length row.old }
-    ensures { Copied steps.now row.new (length steps.now) }
+// Copies the steps to the front of all.
+fn copy_steps(steps: &[Step], all: &mut [Step])
+    requires { length steps.now ≤ length all.old }
+    ensures { Copied steps.now all.new (length steps.now) }
 {
-    row[..steps.len()].copy_from_slice(steps);
+    all[..steps.len()].copy_from_slice(steps);
 }
 
 impl Lattice {
@@ -63,23 +63,20 @@ impl Lattice {
         if !is_shaped(rows, columns, steps.len()) {
             return Err(LatticeRefusal::BadGrid);
         }
-        if top > MAX_LEVEL {
-            return Err(LatticeRefusal::BadTimes);
-        }
-        if !are_timed(steps) {
+        if top > MAX_LEVEL || !are_timed(steps) {
             return Err(LatticeRefusal::BadTimes);
         }
         let still = Interval { low: 0, high: 0 };
         let blank = Step {
             turns: [still, still, still],
         };
-        let mut row = [blank; MAX_STEPS];
-        copy_steps(steps, &mut row);
+        let mut all = [blank; MAX_STEPS];
+        copy_steps(steps, &mut all);
         Ok(Lattice {
             rows,
             columns,
             top,
-            steps: row,
+            steps: all,
         })
     }
 }

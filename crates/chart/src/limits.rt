@@ -22,4 +22,4 @@ pub const MAX_ROWS: u16 = 10;
 pub const MAX_COLUMNS: u16 = 20;
 
 // The most steps of a lattice: one fewer than its columns.
-pub const MAX_STEPS: usize = 19;
+pub const MAX_STEPS: usize = MAX_COLUMNS as usize - 1;

@@ -1,6 +1,6 @@
 // The built-in task; and a longer one, which begins with a script over the files that the program carries, and goes on with
 // routes on the chart of one of them.
-use super::carried::{CarriedFiles, carried};
+use super::carried::{CarriedFiles, FOUR_FIXES};
 use super::file_routes::show_file;
 use super::grids::show_lattices;
 use super::scripts::answer;
@@ -33,9 +33,7 @@ pub fn show_carried(rt: &HostRuntime) -> anyhow::Result<()> {
         println!(rt; "> {line}")?;
         answer(rt, &mut session, line)?;
     }
-    if let Some(file) = carried("four-fixes.chart") {
-        show_file(rt, file)?;
-    }
+    show_file(rt, FOUR_FIXES)?;
     show_changed_tables(rt)?;
     show_lattices(rt)?;
     Ok(())

@@ -17,14 +17,15 @@ pub fn parse(line: &str) -> Option<Command<'_>> {
     let first = words.next();
     let word = if words.next().is_none() { first } else { None };
     match command {
-        "chart" => Some(match word {
-            Some(path) => Command::Chart { path },
-            None => Command::Malformed { command: "chart" },
-        }),
-        "name" => Some(match word.and_then(|fix| fix.parse::<u16>().ok()) {
-            Some(fix) => Command::Name { fix },
-            None => Command::Malformed { command: "name" },
-        }),
+        "chart" => Some(word.map_or(Command::Malformed { command: "chart" }, |path| {
+            Command::Chart { path }
+        })),
+        "name" => Some(
+            word.and_then(|fix| fix.parse::<u16>().ok())
+                .map_or(Command::Malformed { command: "name" }, |fix| {
+                    Command::Name { fix }
+                }),
+        ),
         _ if command.starts_with('#') => None,
         _ => Some(Command::Unknown),
     }

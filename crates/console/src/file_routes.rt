@@ -1,19 +1,17 @@
 // Best totals, regrets, floors and the route of least regret on the chart of a file, with the names of the file's fixes.
-use super::replies::{show_best, show_refusal};
-use super::routes::{show_regrets, show_route_in};
+use super::replies::show_refusal;
+use super::routes::show_four_fixes;
 use super::session::blank_rows;
 use chart::charts::Chart;
-use chart::ends::Ends;
 use chart::limits::MAX_FIXES;
 use chart::table::Table;
 use reader::readers::Reader;
-use std::alloc::Global;
 use std::io;
 
 // The name of a fix after a space.
-fn show_name(rt: &HostRuntime, heap: Global, reader: &Reader<'_>, fix: u16) -> anyhow::Result<()> {
+fn show_name(rt: &HostRuntime, reader: &Reader<'_>, fix: u16) -> anyhow::Result<()> {
     if let Ok(name) = reader.name(fix) {
-        let text = String::from_utf8_lossy(heap, name.text)?;
+        let text = String::from_utf8_lossy(rt.alloc(), name.text)?;
         print!(rt; " {text}")?;
     }
     Ok(())
@@ -27,12 +25,11 @@ fn show_met<C: Chart>(
     from: u16,
     list: &[u16],
 ) -> anyhow::Result<()> {
-    let heap = rt.alloc();
     print!(rt; "# by")?;
-    show_name(rt, heap, reader, from)?;
+    show_name(rt, reader, from)?;
     for k in list {
         if let Some(leg) = chart.leg(*k) {
-            show_name(rt, heap, reader, leg.to)?;
+            show_name(rt, reader, leg.to)?;
         }
     }
     println!(rt; "")?;
@@ -51,10 +48,7 @@ pub fn show_file(rt: &HostRuntime, file: &[u8]) -> anyhow::Result<()> {
     if let Err(refusal) = reader.take_legs(&mut table) {
         show_refusal(rt, "table", refusal)?;
     }
-    show_best(rt, &table, Ends { from: 0, to: 3 })?;
-    show_best(rt, &table, Ends { from: 3, to: 0 })?;
-    show_regrets(rt, &table)?;
     let mut memory = [0u16; MAX_FIXES];
-    let route = show_route_in(rt, &table, &mut memory)?;
+    let route = show_four_fixes(rt, &table, &mut memory)?;
     show_met(rt, &table, &reader, 0, route)
 }

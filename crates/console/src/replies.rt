@@ -1,7 +1,8 @@
-// Replies: each is one line, which begins with the command's own word.
+// Replies, each of one line.
 use chart::charts::Chart;
 use chart::ends::Ends;
-use chart::kinds::{Kind, Level, Quickest};
+use chart::flown::Flown;
+use chart::kinds::{Level, Quickest};
 use chart::refusals::Refusal;
 use least::refusals::RouteRefusal;
 use reader::counts::Counts;
@@ -36,9 +37,32 @@ impl fmt::Display for Size<'_> {
     }
 }
 
+// How long the quickest route takes, and how many legs it has.
+#[derive(Clone, Copy)]
+struct Quick(Flown);
+
+impl fmt::Display for Quick {
+    fn fmt<W: fmt::Write>(&self, f: &mut fmt::Formatter<W>) -> fmt::Result {
+        let Flown { seconds, legs } = self.0;
+        write!(f, "{seconds} seconds {legs} legs")
+    }
+}
+
 pub fn show_refusal<R: Refusal>(rt: &HostRuntime, command: &str, refusal: R) -> io::Result<()> {
     let refused = Refused { command, refusal };
     println!(rt; "{refused}")
+}
+
+// What a command answers, or why it is refused.
+pub fn show_answer<T: fmt::Display + Drop, R: Refusal>(
+    rt: &HostRuntime,
+    command: &str,
+    answer: Result<T, R>,
+) -> io::Result<()> {
+    match answer {
+        Ok(said) => println!(rt; "{command} {said}"),
+        Err(refusal) => show_refusal(rt, command, refusal),
+    }
 }
 
 pub fn show_chart<C: Chart>(rt: &HostRuntime, command: &str, chart: &C) -> io::Result<()> {
@@ -53,13 +77,9 @@ pub fn show_chart<C: Chart>(rt: &HostRuntime, command: &str, chart: &C) -> io::R
 // The quickest and the level between two fixes.
 pub fn show_best<C: Chart>(rt: &HostRuntime, chart: &C, ends: Ends) -> io::Result<()> {
     println!(rt; "> quickest {} {}", ends.from, ends.to)?;
-    match best(chart, &Quickest, ends) {
-        Some(flown) => println!(rt; "quickest {} seconds {} legs", flown.seconds, flown.legs)?,
-        None => show_refusal(rt, "quickest", RouteRefusal::NoRoute)?,
-    }
+    let quickest = best(chart, &Quickest, ends).map(Quick);
+    show_answer(rt, "quickest", quickest.ok_or(RouteRefusal::NoRoute))?;
     println!(rt; "> level {} {}", ends.from, ends.to)?;
-    match best(chart, &Level, ends) {
-        Some(level) => println!(rt; "level {level}"),
-        None => show_refusal(rt, "level", RouteRefusal::NoRoute),
-    }
+    let level = best(chart, &Level, ends);
+    show_answer(rt, "level", level.ok_or(RouteRefusal::NoRoute))
 }

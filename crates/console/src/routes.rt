@@ -1,5 +1,5 @@
 // Regrets, floors and the route of least regret, each a command and its reply.
-use super::replies::show_refusal;
+use super::replies::{show_answer, show_best, show_refusal};
 use chart::charts::Chart;
 use chart::ends::Ends;
 use chart::limits::MAX_FIXES;
@@ -33,10 +33,7 @@ fn show_seconds<R: Refusal>(
     answer: Result<u32, R>,
 ) -> io::Result<()> {
     show_command(rt, command, list)?;
-    match answer {
-        Ok(seconds) => println!(rt; "{command} {seconds}"),
-        Err(refusal) => show_refusal(rt, command, refusal),
-    }
+    show_answer(rt, command, answer)
 }
 
 pub fn show_regret<C: Chart>(rt: &HostRuntime, chart: &C, list: &[u16]) -> io::Result<()> {
@@ -79,6 +76,18 @@ pub fn show_route_in<'a, C: Chart>(
             Ok(&[])
         }
     }
+}
+
+// The best totals, the regrets and the route on a chart with the legs of the four-fix chart, or some of them.
+pub fn show_four_fixes<'a, C: Chart>(
+    rt: &HostRuntime,
+    chart: &C,
+    memory: &'a mut [u16; MAX_FIXES],
+) -> io::Result<&'a [u16]> {
+    show_best(rt, chart, ACROSS)?;
+    show_best(rt, chart, Ends { from: 3, to: 0 })?;
+    show_regrets(rt, chart)?;
+    show_route_in(rt, chart, memory)
 }
 
 pub fn show_route<C: Chart>(rt: &HostRuntime, chart: &C) -> io::Result<()> {

@@ -8,7 +8,7 @@ use std::{env, fs};
 
 // Paths lead to the files below the working folder.
 #[derive(Clone, Copy)]
-pub struct FolderFiles;
+struct FolderFiles;
 
 impl Files for FolderFiles {
     fn fetch(&self, rt: &HostRuntime, path: &str) -> Result<Option<Vec<u8>>, AllocError> {

@@ -80,12 +80,12 @@ pub fn blank_rows(heap: Global) -> Result<Vec<Row>, AllocError> {
     vec![in heap; blank; MAX_LEGS]
 }
 
-// A reader that has read the file, with room for as many legs as a chart may have, and what it found.
-fn read(heap: Global, file: &[u8]) -> Result<(Reader<'_>, Result<Counts, ChartFault>), AllocError> {
+// A reader that has read the file, if it accepts it.
+fn reader_of(heap: Global, file: &[u8]) -> Result<Reader<'_>, AllocError> {
     let mut rows = blank_rows(heap)?;
     let mut reader = Reader::new(file);
-    let found = reader.read_file(rows.as_mut_slice());
-    Ok((reader, found))
+    let _found = reader.read_file(rows.as_mut_slice());
+    Ok(reader)
 }
 
 impl<F: Files> Session<F> {
@@ -102,7 +102,8 @@ impl<F: Files> Session<F> {
         let Some(bytes) = self.files.fetch(rt, path)? else {
             return Ok(Reply::Unreadable { path });
         };
-        let (_reader, found) = read(self.heap, bytes.as_slice())?;
+        let mut rows = blank_rows(self.heap)?;
+        let found = Reader::new(bytes.as_slice()).read_file(rows.as_mut_slice());
         match found {
             Ok(counts) => {
                 self.file = Some(bytes);
@@ -116,7 +117,7 @@ impl<F: Files> Session<F> {
         let Some(file) = &self.file else {
             return Ok(Reply::OutOfTurn);
         };
-        let (reader, _found) = read(self.heap, file.as_slice())?;
+        let reader = reader_of(self.heap, file.as_slice())?;
         match reader.name(fix) {
             Ok(name) => Ok(Reply::Name {
                 text: String::from_utf8_lossy(self.heap, name.text)?,

@@ -1,14 +1,14 @@
 // The four-fix chart as a table, with legs closed too, and tables that are refused.
-use super::replies::{show_best, show_chart, show_refusal};
-use super::routes::{show_regrets, show_route};
-use chart::ends::Ends;
+use super::replies::{show_chart, show_refusal};
+use super::routes::{show_four_fixes, show_route};
+use chart::limits::MAX_FIXES;
 use chart::row::{Row, Standing};
 use chart::table::Table;
 use std::{io, mem};
 use worked::four_fix_rows;
 
 // Shows something of the table of a chart of `n` fixes with these rows, or why it is refused.
-pub fn show_on_table<F: FnOnce(&Table<'_>) -> io::Result<()>>(
+fn show_on_table<F: FnOnce(&Table<'_>) -> io::Result<()>>(
     rt: &HostRuntime,
     rows: &[Row],
     n: u16,
@@ -50,17 +50,14 @@ fn show_closed(rt: &HostRuntime, legs: &[usize]) -> io::Result<()> {
     show_on_table(rt, &rows, 4, |table| show_route(rt, table))
 }
 
-fn show_four_fixes(rt: &HostRuntime, table: &Table<'_>) -> io::Result<()> {
-    show_best(rt, table, Ends { from: 0, to: 3 })?;
-    show_best(rt, table, Ends { from: 3, to: 0 })?;
-    show_regrets(rt, table)?;
-    show_route(rt, table)
-}
-
 pub fn show_tables(rt: &HostRuntime) -> io::Result<()> {
     let rows = four_fix_rows();
     show_table(rt, &rows, 4)?;
-    show_on_table(rt, &rows, 4, |table| show_four_fixes(rt, table))?;
+    show_on_table(rt, &rows, 4, |table| {
+        let mut memory = [0u16; MAX_FIXES];
+        let _route = show_four_fixes(rt, table, &mut memory)?;
+        Ok(())
+    })?;
     show_changed_tables(rt)
 }
 

@@ -26,22 +26,19 @@ fn holds(memory: &[Row], rows: &[Row]) -> bool {
         .is_some_and(|beyond| beyond.iter().all(|row| *row == MARK))
 }
 
-// Whether the name is refused with its number.
+// Whether the name is refused; the number itself is tested here.
 fn has_no_name(reader: &Reader<'_>, fix: u16) -> bool {
-    match reader.name(fix) {
-        Ok(_) => false,
-        Err(refusal) => refusal.number() == 11,
-    }
+    reader
+        .name(fix)
+        .is_err_and(|refusal| refusal.number() == 11)
 }
 
 // Whether the fix has the signs of its record for a name, at their place.
 fn has_name(reader: &Reader<'_>, fix: u16, file: &File) -> bool {
     let start = file.place(fix as usize + 1).saturating_add(3);
     let end = file.place(fix as usize + 2);
-    match reader.name(fix) {
-        Ok(name) => name.place == start && file.bytes.get(start..end) == Some(name.text),
-        Err(_) => false,
-    }
+    reader.name(fix).is_ok_and(|name| name.place == start
+        && file.bytes.get(start..end) == Some(name.text))
 }
 
 // Whether each of so many fixes has its name, and the next number none.

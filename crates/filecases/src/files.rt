@@ -1,4 +1,4 @@
-// Files of charts, written without any code of the reader.
+// Files of charts, written without any function of the reader.
 use chart::row::*;
 use reader::counts::Counts;
 use std::alloc::{AllocError, Global};
@@ -38,13 +38,14 @@ fn row_of(leg: u16, n: u16) -> Row {
     }
 }
 
-// The bytes of a fix's record, of which the first 5 to 8 are used. Eight fixes have two names each of 2, 3, 4 and 5 signs, and
-// the shorter ones begin the longer; the first sign differs from that of all other eights.
-fn fix_bytes(fix: u16) -> [u8; 8] {
+// The name of a fix. Eight fixes have two names each of 2, 3, 4 and 5 signs, and the shorter ones begin the longer; the first sign
+// differs from that of all other eights.
+fn name_of(heap: Global, fix: u16) -> Result<Vec<u8>, AllocError> {
     let letter = b'A' + (fix / 8 % 26) as u8;
     let digit = b'0' + (fix % 2) as u8;
-    let len = 2 + (fix / 2 % 4) as u8;
-    [b'F', b'X', len, letter, digit, b'Z', b'9', b'Q']
+    let mut name = vec![in heap; letter, digit, b'Z', b'9', b'Q']?;
+    name.truncate(2 + (fix / 2 % 4) as usize);
+    Ok(name)
 }
 
 fn leg_bytes(row: &Row) -> [u8; 14] {
@@ -67,8 +68,9 @@ pub fn file_of(heap: Global, shape: Counts) -> Result<File, AllocError> {
     let [m1, m2] = shape.legs.to_be_bytes();
     file.put(&[b'C', b'H', n, m1, m2])?;
     for fix in 0..shape.fixes {
-        let bytes = fix_bytes(fix);
-        file.put(&bytes[0..5 + (fix / 2 % 4) as usize])?;
+        let name = name_of(heap, fix)?;
+        file.put(&[b'F', b'X', (name.len() & 0xff) as u8])?;
+        file.bytes.extend_from_slice(&name)?;
     }
     for leg in 0..shape.legs {
         let row = row_of(leg, shape.fixes);

@@ -129,8 +129,9 @@ pub fn show(rt: &HostRuntime, verdict: Verdict) -> anyhow::Result<usize> {
     let mut count = 0usize;
     let mut agree = 0usize;
     for group in GROUPS.iter().filter(|group| group.0 == verdict) {
-        for case in &cases_of(group, heap)? {
-            count = count.saturating_add(1);
+        let cases = cases_of(group, heap)?;
+        count = count.saturating_add(cases.len());
+        for case in &cases {
             if is_as_expected(heap, case)? {
                 agree = agree.saturating_add(1);
             } else {

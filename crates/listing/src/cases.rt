@@ -189,24 +189,29 @@ pub fn all_cases() -> &'static [Case] {
 }
 
 impl Case {
+    // The row of the leg `k`.
+    fn row(&self, k: usize, leg: &Plain) -> Row {
+        let (from, to, low, high) = *leg;
+        Row {
+            from,
+            to,
+            low,
+            high,
+            top: 300,
+            standing: if self.closed.contains(&k) {
+                Standing::Closed
+            } else {
+                Standing::Open
+            },
+        }
+    }
+
     // The rows of its legs.
     pub fn rows(&self, heap: Global) -> Result<Vec<Row>, AllocError> {
-        let mut rows = Vec::new(heap);
-        for (k, (from, to, low, high)) in self.legs.iter().enumerate() {
-            let is_closed = self.closed.contains(&k);
-            rows.push(Row {
-                from: *from,
-                to: *to,
-                low: *low,
-                high: *high,
-                top: 300,
-                standing: if is_closed {
-                    Standing::Closed
-                } else {
-                    Standing::Open
-                },
-            })?;
-        }
-        Ok(rows)
+        self.legs
+            .iter()
+            .enumerate()
+            .map(|(k, leg)| self.row(k, leg))
+            .collect(heap)
     }
 }

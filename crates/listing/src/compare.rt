@@ -44,12 +44,10 @@ fn floor_agrees<C: Chart>(chart: &C, ends: Ends, routes: &[&Chain], chain: &Chai
     }
 }
 
-// Whether the route call is refused for want of places, and leaves these as they were.
+// Whether the route call is refused for want of places, and leaves these as they were. The number itself is tested here and below.
 fn short_is_refused<C: Chart>(chart: &C, ends: Ends, memory: &mut [u16]) -> bool {
-    match least_regret(chart, ends, memory) {
-        Ok(_) => false,
-        Err(refusal) => refusal.number() == 15 && are_marked(memory),
-    }
+    least_regret(chart, ends, memory).is_err_and(|refusal| refusal.number() == 15)
+        && are_marked(memory)
 }
 
 // Whether the route call puts the listed route into memory, and leaves the places beyond it as they were.

@@ -14,14 +14,12 @@ fn bit(number: u32, k: u16) -> bool {
 fn time<C: Chart, F: Fn(u16) -> bool>(chart: &C, list: &Chain, is_high: F) -> u32
     requires { F.IsAlwaysCallable is_high }
 {
-    let mut sum = 0u32;
-    for k in list.legs.iter() {
-        if let Some(leg) = chart.leg(*k) {
-            let seconds = if is_high(*k) { leg.high } else { leg.low };
-            sum = sum.saturating_add(seconds);
-        }
-    }
-    sum
+    list.legs
+        .iter()
+        .filter_map(|k| chart
+            .leg(*k)
+            .map(|leg| if is_high(*k) { leg.high } else { leg.low }))
+        .fold(0u32, |sum, seconds| sum.saturating_add(seconds))
 }
 
 // What a route loses in the choice that gives the legs whose bit is set their high time.
@@ -47,17 +45,21 @@ fn shares_a_fix(a: &Leg, b: &Leg) -> bool {
     a.from == b.from || a.to == b.to
 }
 
+// Whether the leg shares a fix with one of the chain.
+fn meets_a_leg<C: Chart>(chart: &C, chain: &Chain, leg: &Leg) -> bool {
+    chain
+        .legs
+        .iter()
+        .filter_map(|j| chart.leg(*j))
+        .any(|other| shares_a_fix(leg, &other))
+}
+
 // Whether the leg `k` is shut by the chain.
 fn is_shut<C: Chart>(chart: &C, chain: &Chain, k: u16) -> bool {
-    let Some(leg) = chart.leg(k) else {
-        return false;
-    };
     !chain.legs.contains(&k)
-        && chain
-            .legs
-            .iter()
-            .filter_map(|j| chart.leg(*j))
-            .any(|other| shares_a_fix(&leg, &other))
+        && chart
+            .leg(k)
+            .is_some_and(|leg| meets_a_leg(chart, chain, &leg))
 }
 
 // The floor of a chain; none where no route begins with it.
@@ -74,10 +76,26 @@ pub fn listed_floor<C: Chart>(chart: &C, routes: &[&Chain], chain: &Chain) -> Op
     Some(onward.saturating_sub(braced))
 }
 
+// Whether the one list comes before the other: the smaller number where they first differ, or it begins the other. It is written
+// out here, since the search that is compared with the listing goes by std's order of lists.
+fn comes_before(a: &[u16], b: &[u16]) -> bool {
+    let differ = a.iter().zip(b).find(|(x, y)| x != y);
+    match differ {
+        Some((x, y)) => x < y,
+        None => a.len() < b.len(),
+    }
+}
+
 // The listed route of least regret, after its regret: of two with one regret, that whose list comes first.
 pub fn listed_least<'a, C: Chart>(chart: &C, routes: &[&'a Chain]) -> Option<(u32, &'a [u16])> {
     routes
         .iter()
         .map(|route| (listed_regret(chart, routes, route), route.legs.as_slice()))
-        .min()
+        .reduce(|least, route| {
+            if route.0 < least.0 || (route.0 == least.0 && comes_before(route.1, least.1)) {
+                route
+            } else {
+                least
+            }
+        })
 }

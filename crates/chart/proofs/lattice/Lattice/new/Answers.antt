@@ -9,14 +9,14 @@ use Rattle.chart.proofs.lattice.Lattice.new.Goals as goal
 pub invariant_of-result : goal.invariant_of-result
 invariant_of-result c =
     let shaped = c.if-not-is_shaped.ensures in
-    let timed = copied_timed c.args.steps.now c.copy_steps.new.row _ c.copy_steps.ensures c.if-not-are_timed.ensures in
+    let timed = copied_timed c.args.steps.now c.copy_steps.new.all _ c.copy_steps.ensures c.if-not-are_timed.ensures in
     record {
       some = shaped.some_rows;
       few = shaped.few_rows;
       wide = shaped.some_columns;
       short = shaped.few_columns;
       level = c.if-top-gt-MAX_LEVEL.false;
-      whole = c.copy_steps.auto.row ∙ length-replicate max_steps no_step;
+      whole = c.copy_steps.auto.all ∙ length-replicate max_steps no_step;
       ordered = λ s t h b. (timed s (omega (arith, shaped.steps_fit)) t b).ordered;
       bounded = λ s t h b. (timed s (omega (arith, shaped.steps_fit)) t b).bounded;
     }
@@ -28,7 +28,7 @@ returns c =
     record {
       means_the_grid = (
         refl,
-        lattice_back c.args.rows c.args.columns c.args.top c.args.steps.now c.copy_steps.new.row shaped c.if-top-gt-MAX_LEVEL.false c.if-not-are_timed.ensures c.copy_steps.ensures,
+        lattice_back c.args.rows c.args.columns c.args.top c.args.steps.now c.copy_steps.new.all shaped c.if-top-gt-MAX_LEVEL.false c.if-not-are_timed.ensures c.copy_steps.ensures,
       );
       numbers_every_leg_of_the_grid = grid_numbered c.args.rows c.args.columns shaped.some_rows;
     }
