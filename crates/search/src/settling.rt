@@ -20,18 +20,12 @@ impl<'a, K: Kind> Search<'a, K> {
         ensures same { (self.new.snapshot.now ≡ self.old.snapshot.now) × (self.new.kind.now ≡ self.old.kind.now) }
         ensures offered { Offered (K.rule self.old.kind.now) self.old.label.now self.old.mark.now to total self.new.label.now self.new.mark.now }
     {
-        match self.mark[to] {
-            Mark::Blank => {
-                self.label[to] = total;
-                self.mark[to] = Mark::Reached;
-            }
-            _ => {
-                if self.kind.better(total, self.label[to]) {
-                    self.label[to] = total;
-                    self.mark[to] = Mark::Reached;
-                }
-            }
+        let mark = self.mark[to];
+        if mark != Mark::Blank && !self.kind.better(total, self.label[to]) {
+            return;
         }
+        self.label[to] = total;
+        self.mark[to] = Mark::Reached;
     }
 
     // Eases the leg `j`, which leaves the fix `u`, which was settled last. A settled fix is left out before the
@@ -43,11 +37,12 @@ impl<'a, K: Kind> Search<'a, K> {
         ensures advances { Advances (K.rule self.old.kind.now) self.old.snapshot.now u j (j + 1) self.old.label.now self.old.mark.now self.new.label.now self.new.mark.now }
     {
         let leg = self.snapshot.leg_at(j);
-        if let Standing::Closed = leg.standing {
+        if leg.standing == Standing::Closed {
             return;
         }
         let to = leg.to as usize;
-        if let Mark::Settled = self.mark[to] {
+        let mark = self.mark[to];
+        if mark == Mark::Settled {
             return;
         }
         let total = self.kind.add(self.label[u], j, &leg);
