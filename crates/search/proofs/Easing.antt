@@ -2,7 +2,8 @@
 use Rattle.std.proofs.Common.{◌≡◌, ℕ, ◌+◌, ◌<◌, ◌≤◌, List, [], ◌∷◌, ◌++◌, length, get_or, set, sym, refl, ap, ◌∙◌, subst, subst₂, ⊎_elim, arith, length-set}
 use Rattle.std.proofs.lemmas.List.{get_or-set_same, get_or-set_other, length_push, get_or_default}
 use Rattle.std.proofs.lemmas.Bool.{cases_eq}
-use Rattle.chart.specs.declared.row.Standing.TheVariants.{Closed}
+use Rattle.chart.specs.declared.row.Standing.{Standing}
+use Rattle.chart.specs.declared.row.Standing.TheVariants.{Open, Closed}
 use Rattle.chart.specs.Legs.{at, Charted}
 use Rattle.chart.specs.Limits.{max_fixes}
 use Rattle.chart.specs.Kinds.{Laws, Few, Made}
@@ -13,6 +14,10 @@ use Rattle.search.specs.Labels.{label_at, Known, Done, done}
 use Rattle.search.specs.State.{Quest, Way, Eased, Turn, Offered, took, held}
 use Rattle.chart.proofs.Chains.{in_met_push, chain_push, total_push, made_of_its_legs}
 use Rattle.search.proofs.Marks.{as_good_as_itself, reached_settled, reached_blank, settled_blank, known_small, mark_here, done_on, done_back, known_on, known_back, done_same, done_not_all}
+
+pub only_open : (s : Standing) → (s ≡ Closed → ⊥) → s ≡ Open
+only_open Open n = refl
+only_open Closed n = absurd (n refl)
 
 -- the label of a fix
 abbrev pub label_in : {T : Type 0} → Quest T → List T → ℕ → T

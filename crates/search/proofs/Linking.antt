@@ -1,13 +1,13 @@
 -- The legs of a chart are copied into a row, and linked from the last to the first.
 use Rattle.std.proofs.Common.{◌≡◌, ℕ, ◌+◌, ◌<◌, ◌≤◌, List, [], ◌∷◌, ◌++◌, length, get_or, take, map, set, replicate, Option, Some, None, sym, refl, ap, ◌∙◌, subst, ⊎_elim, arith, length-set, length-take, get_or-take}
-use Rattle.std.proofs.lemmas.List.{get_or-set_same, get_or-set_other, get_or-replicate, length-replicate, length-map, get_or-map, map-set, take_more, take_more_set}
+use Rattle.std.proofs.lemmas.List.{get_or-set_same, get_or-set_other, get_or-replicate, length-replicate, length-map, get_or-map, map-set, take_more, take_more_set, take_all, take-append-le, map-append}
 use Rattle.std.proofs.Math.Seq.{map-set_same}
 use Rattle.std.proofs.lemmas.Bool.{cases_eq}
 use Rattle.chart.specs.declared.leg.Leg.{Leg}
-use Rattle.chart.specs.Legs.{at, no_leg}
+use Rattle.chart.specs.Legs.{at, no_leg, Charted}
 use Rattle.chart.specs.Limits.{max_fixes, max_legs}
 use Rattle.search.specs.declared.linked.Linked.{Linked}
-use Rattle.search.specs.Index.{taken, nexts, FirstLeg, Fair, Chained}
+use Rattle.search.specs.Index.{legs_in, taken, nexts, FirstLeg, Fair, Chained}
 
 pub taken_length : (count : ℕ) (row : List Linked) → length row ≡ max_legs → count ≤ max_legs → length (taken count row) ≡ count
 taken_length count row whole filled =
@@ -18,6 +18,24 @@ taken_length count row whole filled =
 pub taken_at : (count : ℕ) (row : List Linked) (k : ℕ) (d : Linked) → k < count → count ≤ length row → at (taken count row) k ≡ (get_or row k d).leg
 unfolding at
 taken_at count row k d lt le = get_or-take count (map (λ (l : Linked). l.leg) row) k no_leg lt ∙ get_or-map (λ (l : Linked). l.leg) row k d no_leg (omega arith)
+
+-- what a row keeps at the beginning of a longer one
+pub front_taken : {legs : List Leg} (count : ℕ) (row rest : List Linked) → count ≡ length legs → legs_in row ≡ legs → taken count (row ++ rest) ≡ legs
+front_taken count row rest long is =
+    let n = ap (λ (ls : List Leg). length ls) is in
+    ap (λ ls. take count ls) (map-append (λ (l : Linked). l.leg) row rest)
+    ∙ take-append-le count (legs_in row) (legs_in rest) (omega arith)
+    ∙ take_all count (legs_in row) (omega arith)
+    ∙ is
+
+pub fair_row : {fixes : ℕ} {legs : List Leg} {row : List Linked} → Charted fixes legs → legs_in row ≡ legs → Fair row
+fair_row {fixes} {legs} {row} c e =
+    let n = length-map row (λ (l : Linked). l.leg) in
+    let m = ap (λ (ls : List Leg). length ls) e in
+    record {
+      few = omega (arith, c.few);
+      leaves = λ k b. subst (λ (ls : List Leg). (at ls k).from < max_fixes) (sym e) (omega (arith, c.leaves k (omega arith), c.most));
+    }
 
 pub chained_none : (legs : List Leg) (next : List (Option ℕ)) → Chained legs (length legs) (replicate max_fixes None) next
 chained_none legs next = record {
@@ -57,47 +75,48 @@ module _ (legs : List Leg) (k : ℕ) (first next : List (Option ℕ)) (lt : k < 
       }
 
 -- the leg k of a row is linked, as the code reads it
-module _ {row : List Linked} {count k : ℕ} (d : Linked) (fair : Fair row count) (lt : k < count) where
-  length_nexts : length (nexts row) ≡ max_legs
-  length_nexts = length-map row (λ (l : Linked). l.next) ∙ fair.whole
+module _ {row : List Linked} {k : ℕ} (d : Linked) (fair : Fair row) (lt : k < length row) where
+  linked_same : (next : Option ℕ) → legs_in (set row k (record { leg = (get_or row k d).leg; next = next })) ≡ legs_in row
+  linked_same next = map-set_same (λ (l : Linked). l.leg) row k (record { leg = (get_or row k d).leg; next = next }) d refl
 
-  linked_same : (next : Option ℕ) → taken count (set row k (record { leg = (get_or row k d).leg; next = next })) ≡ taken count row
-  linked_same next = ap (λ ls. take count ls) (map-set_same (λ (l : Linked). l.leg) row k (record { leg = (get_or row k d).leg; next = next }) d refl)
-
-  read : at (taken count row) k ≡ (get_or row k d).leg
-  read = taken_at count row k d lt (omega (arith, fair.whole, fair.filled))
+  read : at (legs_in row) k ≡ (get_or row k d).leg
+  unfolding at
+  read = get_or-map (λ (l : Linked). l.leg) row k d no_leg lt
 
   pub leaves_in_first : (first : List (Option ℕ)) → length first ≡ max_fixes → (get_or row k d).leg.from < length first
   leaves_in_first first e = let l = fair.leaves k lt in subst (λ (x : Leg). x.from < length first) read (omega arith)
 
-  linked_more : {first : List (Option ℕ)} → Chained (taken count row) (k + 1) first (nexts row) → Chained (taken count row) k (set first (get_or row k d).leg.from (Some k)) (nexts (set row k (record { leg = (get_or row k d).leg; next = get_or first (get_or row k d).leg.from None })))
+  linked_more : {first : List (Option ℕ)} → Chained (legs_in row) (k + 1) first (nexts row) → Chained (legs_in row) k (set first (get_or row k d).leg.from (Some k)) (nexts (set row k (record { leg = (get_or row k d).leg; next = get_or first (get_or row k d).leg.from None })))
   linked_more {first} c =
-      let n = taken_length count row fair.whole fair.filled in
-      let more = chained_more (taken count row) k first (nexts row) (omega arith) (fair.leaves k lt) (omega (arith, length_nexts, fair.filled)) c in
+      let legs = length-map row (λ (l : Linked). l.leg) in
+      let nexts' = length-map row (λ (l : Linked). l.next) in
+      let more = chained_more (legs_in row) k first (nexts row) (omega arith) (fair.leaves k lt) (omega arith) c in
       let put = map-set (λ (l : Linked). l.next) row k (record { leg = (get_or row k d).leg; next = get_or first (get_or row k d).leg.from None }) in
-      subst (λ ns. Chained (taken count row) k (set first (get_or row k d).leg.from (Some k)) ns) (sym put)
-      (subst (λ (x : Leg). Chained (taken count row) k (set first x.from (Some k)) (set (nexts row) k (get_or first x.from None))) read more)
+      subst (λ ns. Chained (legs_in row) k (set first (get_or row k d).leg.from (Some k)) ns) (sym put)
+      (subst (λ (x : Leg). Chained (legs_in row) k (set first x.from (Some k)) (set (nexts row) k (get_or first x.from None))) read more)
 
-  fair_still : (next : Option ℕ) → Fair (set row k (record { leg = (get_or row k d).leg; next = next })) count
-  fair_still next = record {
-    whole = length-set row k (record { leg = (get_or row k d).leg; next = next }) ∙ fair.whole;
-    filled = fair.filled;
-    leaves = subst (λ legs. (i : ℕ) → i < count → (at legs i).from < max_fixes) (sym (linked_same next)) fair.leaves;
-  }
+  fair_still : (next : Option ℕ) → Fair (set row k (record { leg = (get_or row k d).leg; next = next }))
+  fair_still next =
+      let new : Linked = record { leg = (get_or row k d).leg; next = next } in
+      let same = length-set row k new in
+      record {
+        few = omega (arith, fair.few);
+        leaves = subst (λ legs. (i : ℕ) → i < length (set row k new) → (at legs i).from < max_fixes) (sym (linked_same next)) (λ i b. fair.leaves i (omega arith));
+      }
 
   -- the row after the turn of the leg k: with the same legs, and linked from k on
-  pub linked_turn : {first : List (Option ℕ)} → Chained (taken count row) (k + 1) first (nexts row) →
+  pub linked_turn : {first : List (Option ℕ)} → Chained (legs_in row) (k + 1) first (nexts row) →
       let head = get_or first (get_or row k d).leg.from None in
       let row' = set row k (record { leg = (get_or row k d).leg; next = head }) in
-      (taken count row' ≡ taken count row) × Fair row' count × Chained (taken count row') k (set first (get_or row k d).leg.from (Some k)) (nexts row')
+      (legs_in row' ≡ legs_in row) × Fair row' × Chained (legs_in row') k (set first (get_or row k d).leg.from (Some k)) (nexts row')
   linked_turn {first} c =
       let head = get_or first (get_or row k d).leg.from None in
       let row' = set row k (record { leg = (get_or row k d).leg; next = head }) in
       (linked_same head, fair_still head, subst (λ legs. Chained legs k (set first (get_or row k d).leg.from (Some k)) (nexts row')) (sym (linked_same head)) (linked_more c))
 
-pub copied_more : (legs : List Leg) (row : List Linked) (k : ℕ) (new : Linked) → length row ≡ max_legs → length legs ≤ max_legs → k < length legs → new.leg ≡ at legs k → taken k row ≡ take k legs → taken (k + 1) (set row k new) ≡ take (k + 1) legs
+pub copied_more : (legs : List Leg) (row : List Linked) (k : ℕ) (new : Linked) → length row ≡ length legs → k < length legs → new.leg ≡ at legs k → taken k row ≡ take k legs → taken (k + 1) (set row k new) ≡ take (k + 1) legs
 unfolding at
-copied_more legs row k new whole few lt is c =
+copied_more legs row k new whole lt is c =
     let n = length-map row (λ (l : Linked). l.leg) in
     ap (λ ls. take (k + 1) ls) (map-set (λ (l : Linked). l.leg) row k new)
     ∙ take_more_set (map (λ (l : Linked). l.leg) row) k new.leg (omega arith)

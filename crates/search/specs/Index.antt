@@ -7,9 +7,13 @@ use Rattle.chart.specs.Legs.{at}
 use Rattle.chart.specs.Limits.{max_fixes, max_legs}
 use Rattle.search.specs.declared.linked.Linked.{Linked}
 
+-- the legs of a row
+abbrev pub legs_in : List Linked → List Leg
+legs_in row = map (λ (l : Linked). l.leg) row
+
 -- the first `count` legs of a row
 abbrev pub taken : ℕ → List Linked → List Leg
-taken count row = take count (map (λ (l : Linked). l.leg) row)
+taken count row = take count (legs_in row)
 
 -- for each leg of a row the one after it that leaves the same fix
 abbrev pub nexts : List Linked → List (Option ℕ)
@@ -39,11 +43,10 @@ abbrev pub left_from : List Leg → Option ℕ → List ℕ
 left_from legs None = []
 left_from legs (Some j) = leaving legs (at legs j).from j
 
--- the row has room for the most legs, and its first `count` legs leave fixes that a chart can have
-pub record Fair (row : List Linked) (count : ℕ) : Type 0 where
-  pub whole : length row ≡ max_legs
-  pub filled : count ≤ max_legs
-  pub leaves : (k : ℕ) → k < count → (at (taken count row) k).from < max_fixes
+-- the row has no more legs than a chart can have, and they leave fixes that a chart can have
+pub record Fair (row : List Linked) : Type 0 where
+  pub few : length row ≤ max_legs
+  pub leaves : (k : ℕ) → k < length row → (at (legs_in row) k).from < max_fixes
 
 -- The legs with the number `low` or more are linked: `first` has the first of them that leaves a fix,
 -- and `next` the one that leaves the same fix after a leg.

@@ -59,6 +59,10 @@ pub record Turn {T : Type 0} (q : Quest T) (label : List T) (mark : List Mark) (
   pub here : Done mark u
   pub last : (x : ℕ) → Done mark x → q.rule.order (label_at q.rule label x) (label_at q.rule label u)
 
+-- A step leaves alone what is asked: snapshot and kind become snapshot' and kind', and are the same.
+abbrev pub SameQuestion : {K : Type 0} → Snapshot → K → Snapshot → K → Type 0
+SameQuestion snapshot kind snapshot' kind' = (snapshot' ≡ snapshot) × (kind' ≡ kind)
+
 -- some search over the snapshot is at rest
 abbrev pub AtRest : {T : Type 0} → Rule T → Snapshot → List T → List Mark → Type 0
 AtRest rule snapshot label mark = (departure : ℕ) × Rest (over rule snapshot departure) label mark

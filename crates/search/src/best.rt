@@ -25,10 +25,11 @@ impl<'a, K: Kind> Search<'a, K> {
         while let Some(u) = self.pick() {
             self.settle(u);
         }
-        match self.mark[destination] {
-            Mark::Blank => None,
-            _ => Some(self.label[destination]),
+        let mark = self.mark[destination];
+        if mark == Mark::Blank {
+            return None;
         }
+        Some(self.label[destination])
     }
 }
 
@@ -37,13 +38,7 @@ impl<'a, K: Kind> Search<'a, K> {
 pub fn best_on<K: Kind>(snapshot: &Snapshot, kind: &K, ends: Ends) -> Option<K::Total>
     ensures { BestTotal (K.rule kind.now) (legs_of snapshot.now) ends.from ends.to result }
 {
-    if ends.from >= snapshot.fixes {
-        return None;
-    }
-    if ends.to >= snapshot.fixes {
-        return None;
-    }
-    if ends.from == ends.to {
+    if ends.from >= snapshot.fixes || ends.to >= snapshot.fixes || ends.from == ends.to {
         return None;
     }
     let mut label = [kind.start(); MAX_FIXES];

@@ -5,7 +5,7 @@ ghost use Rattle.chart.specs.Legs.{at};
 ghost use Rattle.chart.specs.Limits.{max_fixes};
 ghost use Rattle.search.specs.Labels.{Done, Pick};
 ghost use Rattle.search.specs.Snapshots.{fixes_of, legs_of};
-ghost use Rattle.search.specs.State.{AtRest, InTurn, Advances, Settles, Offered};
+ghost use Rattle.search.specs.State.{SameQuestion, AtRest, InTurn, Advances, Settles, Offered};
 
 use super::mark::Mark;
 use super::state::Search;
@@ -17,21 +17,15 @@ impl<'a, K: Kind> Search<'a, K> {
     fn offer(&mut self, to: usize, total: K::Total)
         requires fix { to < max_fixes }
         requires undone { Done self.old.mark.now to → ⊥ }
-        ensures same { (self.new.snapshot.now ≡ self.old.snapshot.now) × (self.new.kind.now ≡ self.old.kind.now) }
+        ensures same { SameQuestion self.old.snapshot.now self.old.kind.now self.new.snapshot.now self.new.kind.now }
         ensures offered { Offered (K.rule self.old.kind.now) self.old.label.now self.old.mark.now to total self.new.label.now self.new.mark.now }
     {
-        match self.mark[to] {
-            Mark::Blank => {
-                self.label[to] = total;
-                self.mark[to] = Mark::Reached;
-            }
-            _ => {
-                if self.kind.better(total, self.label[to]) {
-                    self.label[to] = total;
-                    self.mark[to] = Mark::Reached;
-                }
-            }
+        let mark = self.mark[to];
+        if mark != Mark::Blank && !self.kind.better(total, self.label[to]) {
+            return;
         }
+        self.label[to] = total;
+        self.mark[to] = Mark::Reached;
     }
 
     // Eases the leg `j`, which leaves the fix `u`, which was settled last. A settled fix is left out before the
@@ -39,15 +33,16 @@ impl<'a, K: Kind> Search<'a, K> {
     fn ease(&mut self, u: usize, j: u16)
         requires turn { InTurn (K.rule self.old.kind.now) self.old.snapshot.now self.old.label.now self.old.mark.now u j }
         requires leg { (j < length (legs_of self.old.snapshot.now)) × ((at (legs_of self.old.snapshot.now) j).from ≡ u) }
-        ensures same { (self.new.snapshot.now ≡ self.old.snapshot.now) × (self.new.kind.now ≡ self.old.kind.now) }
+        ensures same { SameQuestion self.old.snapshot.now self.old.kind.now self.new.snapshot.now self.new.kind.now }
         ensures advances { Advances (K.rule self.old.kind.now) self.old.snapshot.now u j (j + 1) self.old.label.now self.old.mark.now self.new.label.now self.new.mark.now }
     {
         let leg = self.snapshot.leg_at(j);
-        if let Standing::Closed = leg.standing {
+        if leg.standing == Standing::Closed {
             return;
         }
         let to = leg.to as usize;
-        if let Mark::Settled = self.mark[to] {
+        let mark = self.mark[to];
+        if mark == Mark::Settled {
             return;
         }
         let total = self.kind.add(self.label[u], j, &leg);
@@ -57,7 +52,7 @@ impl<'a, K: Kind> Search<'a, K> {
     // Eases every leg of the fix `u`, which was settled last.
     fn ease_legs(&mut self, u: u16)
         requires { InTurn (K.rule self.old.kind.now) self.old.snapshot.now self.old.label.now self.old.mark.now u 0 }
-        ensures same { (self.new.snapshot.now ≡ self.old.snapshot.now) × (self.new.kind.now ≡ self.old.kind.now) }
+        ensures same { SameQuestion self.old.snapshot.now self.old.kind.now self.new.snapshot.now self.new.kind.now }
         ensures advances { Advances (K.rule self.old.kind.now) self.old.snapshot.now u 0 (length (legs_of self.old.snapshot.now)) self.old.label.now self.old.mark.now self.new.label.now self.new.mark.now }
     {
         let snapshot = self.snapshot;
@@ -70,7 +65,7 @@ impl<'a, K: Kind> Search<'a, K> {
     pub(crate) fn settle(&mut self, u: usize)
         requires rest { AtRest (K.rule self.old.kind.now) self.old.snapshot.now self.old.label.now self.old.mark.now }
         requires pick { Pick (K.rule self.old.kind.now) self.old.label.now self.old.mark.now (fixes_of self.old.snapshot.now) u }
-        ensures same { (self.new.snapshot.now ≡ self.old.snapshot.now) × (self.new.kind.now ≡ self.old.kind.now) }
+        ensures same { SameQuestion self.old.snapshot.now self.old.kind.now self.new.snapshot.now self.new.kind.now }
         ensures settles { Settles (K.rule self.old.kind.now) self.old.snapshot.now self.old.label.now self.old.mark.now self.new.label.now self.new.mark.now }
     {
         self.mark[u] = Mark::Settled;

@@ -1,7 +1,7 @@
 // How a snapshot is taken: the legs are copied, and then linked from the last to the first.
 ghost use Rattle.std.specs.Prelude.{◌≡◌, ◌+◌, ◌<◌, ◌≤◌, length, replicate, None};
 ghost use Rattle.chart.specs.Limits.{max_fixes, max_legs};
-ghost use Rattle.search.specs.Index.{taken, nexts, Fair, Chained};
+ghost use Rattle.search.specs.Index.{legs_in, nexts, Fair, Chained};
 ghost use Rattle.search.specs.Snapshots.{fixes_of, legs_of};
 
 use super::linked::Linked;
@@ -12,30 +12,30 @@ use chart::limits::{MAX_FIXES, MAX_LEGS};
 use chart::row::Standing;
 
 // Copies every leg. The loop counts, since a chart gives a leg by its number.
-fn copy_legs<C: Chart>(chart: &C, row: &mut [Linked])
-    requires { length row.old ≡ max_legs }
-    ensures { taken (length (C.legs chart.now)) row.new ≡ C.legs chart.now }
+fn copy_legs<C: Chart>(chart: &C, legs: &mut [Linked])
+    requires { length legs.old ≡ length (C.legs chart.now) }
+    ensures { legs_in legs.new ≡ C.legs chart.now }
 {
     for k in 0..chart.m() {
         if let Some(leg) = chart.leg(k) {
-            row[k as usize] = Linked { leg, next: None };
+            legs[k as usize] = Linked { leg, next: None };
         }
     }
 }
 
 // Links every leg. From the last to the first, a leg is put before those of its fix that have a higher number. The
-// loop counts, since what is stored is the number of a leg.
-fn link_legs(row: &mut [Linked], first: &mut [Option<u16>], count: u16)
-    requires fair { Fair row.old count }
+// loop counts: after `iter_mut().enumerate().rev()` a proof knows nothing of the elements.
+fn link_legs(legs: &mut [Linked], first: &mut [Option<u16>])
+    requires fair { Fair legs.old }
     requires none { first.old ≡ replicate max_fixes None }
-    ensures same { taken count row.new ≡ taken count row.old }
-    ensures chained { Chained (taken count row.old) 0 first.new (nexts row.new) }
+    ensures same { legs_in legs.new ≡ legs_in legs.old }
+    ensures chained { Chained (legs_in legs.old) 0 first.new (nexts legs.new) }
 {
-    for k in (0..count).rev() {
-        let leg = row[k as usize].leg;
-        let head = &mut first[leg.from as usize];
-        row[k as usize] = Linked { leg, next: *head };
-        *head = Some(k);
+    for k in (0..legs.len()).rev() {
+        let linked = &mut legs[k];
+        let head = &mut first[linked.leg.from as usize];
+        linked.next = *head;
+        *head = Some(k as u16);
     }
 }
 
@@ -60,8 +60,9 @@ impl Snapshot {
             next: None,
         }; MAX_LEGS];
         let mut first = [None; MAX_FIXES];
-        copy_legs(chart, &mut legs);
-        link_legs(&mut legs, &mut first, count);
+        let row = &mut legs[..count as usize];
+        copy_legs(chart, row);
+        link_legs(row, &mut first);
         Snapshot {
             fixes,
             count,

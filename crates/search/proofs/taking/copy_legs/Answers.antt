@@ -13,7 +13,6 @@ loop-k-preserved g c =
       | in-Some w ↦
           let lt : c.loop-k.k < length legs = omega arith in
           let is = numbered_is legs c.loop-k.k w.in-Some.leg lt (sym w.in-Some.is ∙ c.leg.ensures) in
-          let few = (g.C.Chart.charted c.args.chart.now).few in
-          (omega arith, ap (λ r. taken (c.loop-k.k + 1) r) w.row-is ∙ copied_more legs c.loop-k.row c.loop-k.k _ c.loop-k.invariant.0 few lt is c.loop-k.invariant.1)
+          (omega arith, ap (λ r. taken (c.loop-k.k + 1) r) w.legs-is ∙ copied_more legs c.loop-k.legs c.loop-k.k _ c.loop-k.invariant.0 lt is c.loop-k.invariant.1)
       | in_default w ↦ absurd (numbered_not legs c.loop-k.k (omega arith) (sym c.leg.ensures ∙ w.in_default.is))
     ]

@@ -1,5 +1,6 @@
-use Rattle.std.proofs.Common.{sym, refl, ap, ◌∙◌, subst, subst₂, arith, rules}
+use Rattle.std.proofs.Common.{◌≡◌, sym, refl, ap, ◌∙◌, subst, subst₂, arith, rules}
 use Rattle.chart.specs.declared.leg.Leg.{Leg}
+use Rattle.chart.specs.declared.row.Standing.TheVariants.{Closed}
 use Rattle.chart.specs.Kinds.{Few}
 use Rattle.chart.specs.Routes.{Leaves}
 use Rattle.search.specs.Labels.{label_at, Done}
@@ -7,20 +8,21 @@ use Rattle.search.specs.Snapshots.{legs_of}
 use Rattle.search.specs.Sound.{snapshot_charted}
 use Rattle.search.specs.State.{Offered}
 use Rattle.search.proofs.Leaving.{leads_to_fix}
-use Rattle.search.proofs.Easing.{read_u, few_legs, turn_small, turn_passes_closed, turn_passes_settled, turn_offered}
+use Rattle.search.proofs.Easing.{read_u, few_legs, turn_small, turn_passes_closed, turn_passes_settled, turn_offered, only_open}
 use Rattle.search.proofs.state.Search.ease.Goals as goal
 
-pub returns-in-Closed-clause-advances : goal.returns-in-Closed-clause-advances
-returns-in-Closed-clause-advances g c =
+pub returns-then-eq-clause-advances : goal.returns-then-eq-clause-advances
+returns-then-eq-clause-advances g c =
     let laws = g.K.Kind.laws c.args.self.now.kind.now in
-    let closed = sym (ap (λ (l : Leg). l.standing) c.leg_at-leg.ensures) ∙ c.in-Closed.is in
+    let is : c.leg_at-leg.result.standing ≡ Closed = search rules in
+    let closed = sym (ap (λ (l : Leg). l.standing) c.leg_at-leg.ensures) ∙ is in
     record { turn = λ departure turn. turn_passes_closed laws turn closed; count = refl }
 
-pub bounds : goal.bounds
-bounds g c = omega (arith, leads_to_fix c.args.self.now.snapshot.now c.requires.leg.0 c.leg_at-leg.ensures, c.requires.turn.1.state.marks)
+pub bounds-self-to : goal.bounds-self-to
+bounds-self-to g c = omega (arith, leads_to_fix c.args.self.now.snapshot.now c.requires.leg.0 c.leg_at-leg.ensures, c.requires.turn.1.state.marks)
 
-pub returns-in-Settled-clause-advances : goal.returns-in-Settled-clause-advances
-returns-in-Settled-clause-advances g c =
+pub returns-then-eq-2-clause-advances : goal.returns-then-eq-2-clause-advances
+returns-then-eq-2-clause-advances g c =
     let laws = g.K.Kind.laws c.args.self.now.kind.now in
     let mark = c.args.self.now.mark.now in
     let settled : Done mark c.leg_at-leg.result.to = search rules in
@@ -55,7 +57,8 @@ returns g c =
     let read = read_u laws c.requires.turn.1 c.index-self-u.result in
     let total = c.add-total.ensures ∙ ap (λ a. rule.add a c.args.j leg) read ∙ ap (λ l. rule.add (label_at rule label c.args.u) c.args.j l) is in
     let offered = subst₂ (λ w a. Offered rule label mark w a c.offer.new.self.label.now c.offer.new.self.mark.now) (ap (λ (l : Leg). l.to) is) total c.offer.ensures.offered in
-    let leaves : Leaves (legs_of s) c.args.u c.args.j = record { there = c.requires.leg.0; stands = sym (ap (λ (l : Leg). l.standing) is) ∙ c.in_default.is; from = c.requires.leg.1 } in
+    let stands : (leg.standing ≡ Closed → ⊥) = search rules in
+    let leaves : Leaves (legs_of s) c.args.u c.args.j = record { there = c.requires.leg.0; stands = sym (ap (λ (l : Leg). l.standing) is) ∙ only_open leg.standing stands; from = c.requires.leg.1 } in
     let away = subst (λ (l : Leg). Done mark l.to → ⊥) is undone in
     record {
       same = c.offer.ensures.same;

@@ -17,13 +17,13 @@ loop-u-init g c =
     let begins = search_begins q (g.K.Kind.laws kind) (snapshot_charted s) c.requires.ends.0 in
     (refl, refl, subst₂ (λ l m. Rest q l (set m c.args.ends.from Reached)) (sym c.requires.blank.0) (sym c.requires.blank.1) begins)
 
-pub returns-in-Blank : goal.returns-in-Blank
-returns-in-Blank g c =
+pub returns-then-eq : goal.returns-then-eq
+returns-then-eq g c =
     let none = subst (λ s. (w : ℕ) → w < fixes_of s → mark_at c.loop-u.self.mark.now w ≢ Reached) c.loop-u.invariant.0 c.in_default.ensures in
     no_route_to_blank (g.K.Kind.laws c.args.self.now.kind.now) c.loop-u.invariant.2 none c.args.ends.to (search rules)
 
-pub returns-in_default-mark : goal.returns-in_default-mark
-returns-in_default-mark g c =
+pub returns : goal.returns
+returns g c =
     let rule = g.K.Kind.rule c.args.self.now.kind.now in
     let s = c.args.self.now.snapshot.now in
     let rest = c.loop-u.invariant.2 in
