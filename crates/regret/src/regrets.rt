@@ -17,10 +17,9 @@ use search::snapshot::Snapshot;
 pub fn regret_on(snapshot: &Snapshot, ends: Ends, list: &[u16]) -> Result<u32, RegretRefusal>
     ensures { RegretAnswer (trip (legs_of snapshot.now) ends.from ends.to) list.now result }
 {
-    let walked = walk(snapshot, ends.from, list).ok_or(RegretRefusal::NotARoute)?;
-    if walked.end != ends.to {
-        return Err(RegretRefusal::NotARoute);
-    }
+    let walked = walk(snapshot, ends.from, list)
+        .filter(|walked| walked.end == ends.to)
+        .ok_or(RegretRefusal::NotARoute)?;
     let worst = Seconds {
         choice: Marked {
             marks: &walked.marks,
