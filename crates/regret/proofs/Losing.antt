@@ -51,8 +51,9 @@ marks_worst legs marks p f = record {
 }
 
 -- before the first leg
-pub along_start : (legs : List Leg) (s : ℕ) (w : Walked) → s < max_fixes → w.end ≡ s → w.high ≡ 0 → w.used ≡ set (replicate max_fixes false) s true → w.marks ≡ replicate max_legs false → Along legs s [] w
-along_start legs s w lt end high used marks = record {
+pub along_start : (legs : List Leg) (s : ℕ) (w : Walked) → s < max_fixes → w.from ≡ s → w.end ≡ s → w.high ≡ 0 → w.used ≡ set (replicate max_fixes false) s true → w.marks ≡ replicate max_legs false → Along legs s [] w
+along_start legs s w lt from end high used marks = record {
+  from = from;
   walk = subst₂ (λ z u. Walk legs s [] z u) (sym end) (sym used) (walk_start legs max_fixes s lt);
   flags = subst (λ m. Flags m []) (sym marks) (flags_none max_legs);
   sums = high;
@@ -83,8 +84,8 @@ step_known legs charted z used k leg e st =
 
 -- one leg on
 module _ {fixes : ℕ} (legs : List Leg) (charted : Charted fixes legs) (s : ℕ) (list : List ℕ) (i : ℕ) (w : Walked) (along : Along legs s (take i list) w) where
-  pub along_again : i < length list → (leg : Leg) → StepsAlong legs w.end w.used (get_or list i 0) (Some leg) → (w' : Walked) → w'.end ≡ leg.to → w'.high ≡ w.high + leg.high → w'.used ≡ set w.used leg.to true → w'.marks ≡ set w.marks (get_or list i 0) true → Along legs s (take (i + 1) list) w'
-  along_again lt leg st w' end high used marks =
+  pub along_again : i < length list → (leg : Leg) → StepsAlong legs w.end w.used (get_or list i 0) (Some leg) → (w' : Walked) → w'.from ≡ w.from → w'.end ≡ leg.to → w'.high ≡ w.high + leg.high → w'.used ≡ set w.used leg.to true → w'.marks ≡ set w.marks (get_or list i 0) true → Along legs s (take (i + 1) list) w'
+  along_again lt leg st w' from end high used marks =
       let k = get_or list i 0 in
       let m = take_more list i 0 lt in
       let known = step_known legs charted w.end w.used k leg st.0 st.1 in
@@ -92,6 +93,7 @@ module _ {fixes : ℕ} (legs : List Leg) (charted : Charted fixes legs) (s : ℕ
       let h : leg.high ≡ (at legs k).high = ap (λ (l : Leg). l.high) st.0 in
       let walk = walk_push legs s (take i list) w.end w.used along.walk k st.1 (omega (arith, known.to_small, w.flagged)) in
       record {
+        from = from ∙ along.from;
         walk = subst (λ ks. Walk legs s ks w'.end w'.used) (sym m)
             (subst₂ (λ z u. Walk legs s (take i list ++ k ∷ []) z u) (sym (end ∙ to)) (sym (used ∙ ap (λ x. set w.used x true) to)) walk);
         flags = subst₂ (λ u ks. Flags u ks) (sym marks) (sym m) (flags_push w.marks (take i list) k (omega (arith, known.number_small, w.marked)) along.flags);
