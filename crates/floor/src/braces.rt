@@ -6,12 +6,10 @@ ghost use Rattle.floor.specs.Braces.{UsedBeside, TellsShut, MarksUnshut, BracedB
 
 use chart::charts::Chart;
 use chart::ends::Ends;
-use chart::kinds::Seconds;
 use chart::leg::Leg;
 use chart::limits::MAX_LEGS;
-use regret::marked::{Marked, is_marked};
+use regret::marked::{is_marked, least_time};
 use regret::walked::Walked;
-use search::best::best_on;
 use search::snapshot::Snapshot;
 
 // Whether the fix `v` is used, and is not `u`.
@@ -48,8 +46,5 @@ pub(crate) fn braced_time(snapshot: &Snapshot, ends: Ends, walked: &Walked) -> O
     ensures { BracedBy (trip (legs_of snapshot.now) ends.from ends.to) walked.now result }
 {
     let marks = unshut_marks(snapshot, walked);
-    let braced = Seconds {
-        choice: Marked { marks: &marks },
-    };
-    best_on(snapshot, &braced, ends)
+    least_time(snapshot, &marks, ends)
 }

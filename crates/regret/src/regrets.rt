@@ -4,13 +4,11 @@ ghost use Rattle.chart.specs.Regret.{trip, WorstChoiceGivesRegret, RegretIsUniqu
 ghost use Rattle.search.specs.Snapshots.{legs_of};
 ghost use Rattle.regret.specs.Answers.{RegretAnswer};
 
-use super::marked::Marked;
+use super::marked::least_time;
 use super::refusals::RegretRefusal;
 use super::walking::walk;
 use chart::charts::Chart;
 use chart::ends::Ends;
-use chart::kinds::Seconds;
-use search::best::best_on;
 use search::snapshot::Snapshot;
 
 // The regret of a list of legs between two ends, on a snapshot that serves many questions.
@@ -20,12 +18,7 @@ pub fn regret_on(snapshot: &Snapshot, ends: Ends, list: &[u16]) -> Result<u32, R
     let walked = walk(snapshot, ends.from, list)
         .filter(|walked| walked.end == ends.to)
         .ok_or(RegretRefusal::NotARoute)?;
-    let worst = Seconds {
-        choice: Marked {
-            marks: &walked.marks,
-        },
-    };
-    let best = best_on(snapshot, &worst, ends).ok_or(RegretRefusal::NotARoute)?;
+    let best = least_time(snapshot, &walked.marks, ends).ok_or(RegretRefusal::NotARoute)?;
     Ok(walked.high - best)
 }
 

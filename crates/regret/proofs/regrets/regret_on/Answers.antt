@@ -24,7 +24,7 @@ found c =
     let ends = c.args.ends in
     let w = c.in_ok-walked.walked in
     let along = rw c.in_ok-walked.ensures.ok_part at (walked_to _ _ _ c.args.ends.to _ c.walk.result _ _ c.walk.ensures c.filter.ensures (λ w b post. search rules)) in
-    let best = rw c.in_ok-best.ensures.ok_part at c.best_on.ensures in
+    let best = rw c.in_ok-best.ensures.ok_part at c.least_time.ensures in
     regret_found (legs_of s) ends.from ends.to c.args.list.now w along.0 along.1 c.in_ok-best.best best
 
 pub overflow_sub-result : goal.overflow_sub-result
