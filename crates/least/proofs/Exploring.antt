@@ -21,7 +21,7 @@ use Rattle.regret.proofs.Walks.{walk_push, chain_steps}
 use Rattle.regret.proofs.Losing.{step_known}
 use Rattle.least.specs.declared.sweep.Best.{Best}
 use Rattle.least.specs.declared.sweep.Sweep.{Sweep}
-use Rattle.least.specs.Sweeps.{trip_of, Swept, GoesOn, GoesBelow, Ready}
+use Rattle.least.specs.Sweeps.{trip_of, Swept, BestAlone, GoesOn, GoesBelow, Ready}
 use Rattle.least.proofs.Sweeping.{swept_none, swept_both, swept_of}
 
 -- what is left of a chain behind its front is a chain
@@ -35,7 +35,7 @@ pub record Turns (s : Sweep) (here : ℕ) (s' : Sweep) (left : List ℕ) : Type 
   pub low : ℕ
   pub others : left ≡ leaving (trip_of s).legs here low
   pub swept : Swept (trip_of s) s.best s'.best (GoesBelow s.chain.items low)
-  pub stands : s' ≡ record s { best = s'.best }
+  pub stands : BestAlone s s'
 
 module _ {s : Sweep} {here : ℕ} (ready : Ready s here) where
   abbrev t : Trip
@@ -123,7 +123,7 @@ module _ {s : Sweep} {here : ℕ} (ready : Ready s here) where
     pub ready_again : Ready s₁ here
     ready_again = subst (λ (x : Sweep). Ready x here) (sym turns.stands) (record { leaves = ready.leaves; useds = ready.useds; walk = ready.walk; sound = turns.swept.sound })
 
-    pub turns_again : (k : ℕ) (rest : List ℕ) → left ≡ k ∷ rest → (s₂ : Sweep) → Swept (trip_of s₁) s₁.best s₂.best (GoesOn s₁.chain.items k) → s₂ ≡ record s₁ { best = s₂.best } → Turns s here s₂ rest
+    pub turns_again : (k : ℕ) (rest : List ℕ) → left ≡ k ∷ rest → (s₂ : Sweep) → Swept (trip_of s₁) s₁.best s₂.best (GoesOn s₁.chain.items k) → BestAlone s₁ s₂ → Turns s here s₂ rest
     turns_again k rest is s₂ turn stands =
         let next = leaving_goes_on t.legs here (sym turns.others ∙ is) in
         let turn' : Swept t s₁.best s₂.best (GoesOn ks k) = subst (λ (x : Sweep). Swept (trip_of x) s₁.best s₂.best (GoesOn x.chain.items k)) turns.stands turn in

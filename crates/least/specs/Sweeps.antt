@@ -33,6 +33,10 @@ pub record Swept (t : Trip) (best best' : Option Best) (S : List ℕ → Type 0)
   pub kept : (q : List ℕ) → Flies t q → Covers t best q → Covers t best' q
   pub all : (q : List ℕ) → Flies t q → S q → Covers t best' q
 
+-- the search is what it was, except for its best
+abbrev pub BestAlone : Sweep → Sweep → Type 0
+BestAlone s s' = s' ≡ record s { best = s'.best }
+
 -- q is p
 abbrev pub Only : List ℕ → List ℕ → Type 0
 Only p q = q ≡ p

@@ -1,7 +1,6 @@
 // All routes that begin with a chain, in the order of their lists.
-ghost use Rattle.std.specs.Prelude.{◌≡◌};
 ghost use Rattle.chart.specs.Floors.{Begins};
-ghost use Rattle.least.specs.Sweeps.{trip_of, Ready, Swept, GoesOn};
+ghost use Rattle.least.specs.Sweeps.{trip_of, Ready, Swept, BestAlone, GoesOn};
 
 use super::sweep::Sweep;
 use regret::walking::step;
@@ -12,7 +11,7 @@ impl<'a> Sweep<'a> {
     pub(crate) fn explore(&mut self, here: u16)
         requires { Ready self.old here }
         ensures swept { Swept (trip_of self.old) self.old.best self.new.best (Begins self.old.chain.items) }
-        ensures stands { self.new ≡ record self.old { best = self.new.best } }
+        ensures stands { BestAlone self.old self.new }
     {
         if here == self.ends.to {
             self.weigh();
@@ -31,7 +30,7 @@ impl<'a> Sweep<'a> {
     fn explore_leg(&mut self, here: u16, k: u16)
         requires { Ready self.old here }
         ensures swept { Swept (trip_of self.old) self.old.best self.new.best (GoesOn self.old.chain.items k) }
-        ensures stands { self.new ≡ record self.old { best = self.new.best } }
+        ensures stands { BestAlone self.old self.new }
     {
         let Some(leg) = step(self.snapshot, here, &self.used, k) else {
             return;
