@@ -6,7 +6,7 @@ use super::sweep::Sweep;
 use regret::walking::step;
 
 impl<'a> Sweep<'a> {
-    // Weighs or drops every route that begins with the chain, which leads to the fix `here`.
+    // Compares every route that begins with the chain, which leads to the fix `here`, with the best so far, or drops it.
     #[cycle(explore)]
     pub(crate) fn explore(&mut self, here: u16)
         requires { Ready self.old here }
@@ -25,7 +25,7 @@ impl<'a> Sweep<'a> {
         }
     }
 
-    // Weighs or drops every route that begins with the chain and then the leg `k`.
+    // Compares every route that begins with the chain and then the leg `k` with the best so far, or drops it.
     #[cycle(explore)]
     fn explore_leg(&mut self, here: u16, k: u16)
         requires { Ready self.old here }

@@ -1,4 +1,4 @@
-// The route of least regret, written into memory that is lent.
+// The route of least regret, written into the caller's memory.
 ghost use Rattle.std.specs.Prelude.{◌≡◌};
 ghost use Rattle.chart.specs.Regret.{trip, LeastRegretIsUnique};
 ghost use Rattle.search.specs.Snapshots.{legs_of};

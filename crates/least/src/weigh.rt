@@ -1,4 +1,4 @@
-// A chain weighed against the best route so far.
+// A chain compared with the best route so far.
 ghost use Rattle.least.specs.Sweeps.{trip_of, Sound, Swept, BestAlone, Only};
 
 use super::sweep::{Best, Sweep};

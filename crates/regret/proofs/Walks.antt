@@ -81,7 +81,7 @@ stepped legs z used k (Some l) r P is m test = rw m.2 (by_test m.0 (test l m.0 m
 pub split_at : (list : List ℕ) (i : ℕ) → i < length list → list ≡ take i list ++ get_or list i 0 ∷ drop (i + 1) list
 split_at list i lt = sym (take-append-drop i list) ∙ ap (λ r. take i list ++ r) (drop_more list i 0 lt)
 
--- a walk along the front of a list that does not go on
+-- a walk along the first legs of a list that does not go on
 pub walk_stuck : (legs : List Leg) (s : ℕ) (list : List ℕ) (i z : ℕ) (used : List Bool) → Walk legs s (take i list) z used → i < length list → (Steps legs z used (get_or list i 0) → ⊥) → NoChain legs s list
 walk_stuck legs s list i z used walk lt n t c =
     n (chain_steps legs s (take i list) z used walk (get_or list i 0) t (drop (i + 1) list) (subst (λ ks. Chain legs s ks t) (split_at list i lt) c))

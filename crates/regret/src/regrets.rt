@@ -11,7 +11,7 @@ use chart::charts::Chart;
 use chart::ends::Ends;
 use search::snapshot::Snapshot;
 
-// The regret of a list of legs between two ends, on a snapshot that serves many questions.
+// The regret of a list of legs between two ends, on a snapshot, which is made once for many questions.
 pub fn regret_on(snapshot: &Snapshot, ends: Ends, list: &[u16]) -> Result<u32, RegretRefusal>
     ensures { RegretAnswer (trip (legs_of snapshot.now) ends.from ends.to) list.now result }
 {

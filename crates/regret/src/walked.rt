@@ -6,7 +6,7 @@ use chart::leg::Leg;
 use chart::limits::{MAX_FIXES, MAX_LEGS};
 
 // Where it begins and ends, the sum of its high times, a flag for each fix that it meets, and a mark for each of its
-// legs: sets of fixed size, since no call takes memory from a heap.
+// legs: sets of fixed size, since no call allocates memory.
 #[derive(Clone, Copy)]
 pub struct Walked {
     pub from: u16,
