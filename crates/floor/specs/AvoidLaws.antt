@@ -1,5 +1,5 @@
--- The proof that the kind which avoids used fixes keeps the laws of kinds. There is nothing here to believe:
--- it stands among the definitions since the kind itself cites it.
+-- The proof that the kind which avoids used fixes keeps the laws of kinds. A reader need not check it:
+-- it is among the definitions since the kind itself cites it.
 use Rattle.std.specs.Prelude.{◌≡◌, ℕ, Bool, true, false, ◌⊎◌, List, Some, None, Option, slice_index_or, refl}
 use Rattle.std.proofs.Common.{ap, inl, inr, arith}
 use Rattle.std.proofs.Math.Decide.{dec_le}

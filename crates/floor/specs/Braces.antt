@@ -27,13 +27,13 @@ abbrev pub BracedTime : Trip → List ℕ → Option ℕ → Type 0
 BracedTime t ks None = (q : List ℕ) → Flies t q → ⊥
 BracedTime t ks (Some b) = BracedLeast t ks b
 
--- b says whether the leg k of a chart, which is `leg`, is shut by the chain that was walked along from s to find w
-abbrev pub TellsShut : ℕ → Walked → ℕ → Leg → Bool → Type 0
-TellsShut s w k leg b = (legs : List Leg) (ks : List ℕ) → Along legs s ks w → leg ≡ at legs k → MatchBool b (Shut legs ks k) (Shut legs ks k → ⊥)
+-- b says whether the leg k of a chart, which is `leg`, is shut by the chain that was walked along to find w
+abbrev pub TellsShut : Walked → ℕ → Leg → Bool → Type 0
+TellsShut w k leg b = (legs : List Leg) (ks : List ℕ) → Along legs w.from ks w → leg ≡ at legs k → MatchBool b (Shut legs ks k) (Shut legs ks k → ⊥)
 
--- of the legs below n, just those are marked that are not shut by the chain that was walked along from s to find w
-abbrev pub MarksUnshut : List Leg → ℕ → Walked → List Bool → ℕ → Type 0
-MarksUnshut legs s w marks n = (ks : List ℕ) → Along legs s ks w → Unshut legs ks marks n
+-- of the legs below n, just those are marked that are not shut by the chain that was walked along to find w
+abbrev pub MarksUnshut : List Leg → Walked → List Bool → ℕ → Type 0
+MarksUnshut legs w marks n = (ks : List ℕ) → Along legs w.from ks w → Unshut legs ks marks n
 
 -- r is the least time of any route of the trip where the legs shut by the chain that was walked along to find w take
 -- their low time

@@ -31,10 +31,6 @@ impl<'a> Kind for Avoid<'a> {
     }
 
     fn better(&self, a: Option<u32>, b: Option<u32>) -> bool {
-        match (a, b) {
-            (None, _) => false,
-            (Some(_), None) => true,
-            (Some(x), Some(y)) => x < y,
-        }
+        a.is_some_and(|x| b.is_none_or(|y| x < y))
     }
 }

@@ -6,12 +6,10 @@ ghost use Rattle.floor.specs.Braces.{UsedBeside, TellsShut, MarksUnshut, BracedB
 
 use chart::charts::Chart;
 use chart::ends::Ends;
-use chart::kinds::Seconds;
 use chart::leg::Leg;
 use chart::limits::MAX_LEGS;
-use regret::marked::{Marked, is_marked};
+use regret::marked::{is_marked, least_time};
 use regret::walked::Walked;
-use search::best::best_on;
 use search::snapshot::Snapshot;
 
 // Whether the fix `v` is used, and is not `u`.
@@ -21,25 +19,23 @@ fn is_used_beside(used: &[bool], u: u16, v: u16) -> bool
     v != u && is_marked(used, v)
 }
 
-// Whether the leg, which has the number `k`, is shut by the chain that was walked along from the departure. Of the fixes
-// that the chain meets, it leaves all but its end, and enters all but the departure.
-fn is_shut(departure: u16, walked: &Walked, k: u16, leg: Leg) -> bool
-    ensures { TellsShut departure walked.now k leg result }
+// Whether the leg, which has the number `k`, is shut by the chain that was walked along. Of the fixes that the chain
+// meets, it leaves all but its end, and enters all but its start.
+fn is_shut(walked: &Walked, k: u16, leg: Leg) -> bool
+    ensures { TellsShut walked.now k leg result }
 {
     !is_marked(&walked.marks, k)
         && (is_used_beside(&walked.used, walked.end, leg.from)
-            || is_used_beside(&walked.used, departure, leg.to))
+            || is_used_beside(&walked.used, walked.from, leg.to))
 }
 
 // A mark on every leg that is not shut. A leg's number is also the place of its mark.
-fn unshut_marks(snapshot: &Snapshot, departure: u16, walked: &Walked) -> [bool; MAX_LEGS]
-    ensures { MarksUnshut (legs_of snapshot.now) departure walked.now result (length (legs_of snapshot.now)) }
+fn unshut_marks(snapshot: &Snapshot, walked: &Walked) -> [bool; MAX_LEGS]
+    ensures { MarksUnshut (legs_of snapshot.now) walked.now result (length (legs_of snapshot.now)) }
 {
     let mut marks = [false; MAX_LEGS];
     for k in 0..snapshot.m() {
-        marks[k as usize] = !snapshot
-            .leg(k)
-            .is_some_and(|leg| is_shut(departure, walked, k, leg));
+        marks[k as usize] = !snapshot.leg(k).is_some_and(|leg| is_shut(walked, k, leg));
     }
     marks
 }
@@ -49,9 +45,6 @@ fn unshut_marks(snapshot: &Snapshot, departure: u16, walked: &Walked) -> [bool; 
 pub(crate) fn braced_time(snapshot: &Snapshot, ends: Ends, walked: &Walked) -> Option<u32>
     ensures { BracedBy (trip (legs_of snapshot.now) ends.from ends.to) walked.now result }
 {
-    let marks = unshut_marks(snapshot, ends.from, walked);
-    let braced = Seconds {
-        choice: Marked { marks: &marks },
-    };
-    best_on(snapshot, &braced, ends)
+    let marks = unshut_marks(snapshot, walked);
+    least_time(snapshot, &marks, ends)
 }

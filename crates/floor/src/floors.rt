@@ -13,7 +13,7 @@ use chart::ends::Ends;
 use regret::walking::walk;
 use search::snapshot::Snapshot;
 
-// The floor of a list of legs between two ends, on a snapshot that serves many questions.
+// The floor of a list of legs between two ends, on a snapshot, which is made once for many questions.
 pub fn floor_on(snapshot: &Snapshot, ends: Ends, chain: &[u16]) -> Result<u32, FloorRefusal>
     ensures { FloorAnswer (trip (legs_of snapshot.now) ends.from ends.to) chain.now result }
 {

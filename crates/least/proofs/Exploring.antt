@@ -21,21 +21,21 @@ use Rattle.regret.proofs.Walks.{walk_push, chain_steps}
 use Rattle.regret.proofs.Losing.{step_known}
 use Rattle.least.specs.declared.sweep.Best.{Best}
 use Rattle.least.specs.declared.sweep.Sweep.{Sweep}
-use Rattle.least.specs.Sweeps.{trip_of, Swept, GoesOn, GoesBelow, Ready}
+use Rattle.least.specs.Sweeps.{trip_of, Swept, BestAlone, GoesOn, GoesBelow, Ready}
 use Rattle.least.proofs.Sweeping.{swept_none, swept_both, swept_of}
 
--- what is left of a chain behind its front is a chain
+-- the legs of a chain after its first few are a chain
 chain_back : (legs : List Leg) (ks ms : List ℕ) (s z t : ℕ) → Leads legs s ks z → Chain legs s (ks ++ ms) t → Chain legs z ms t
 chain_back legs [] ms s z t e c = subst (λ y. Chain legs y ms t) e c
 chain_back legs (k ∷ ks) ms s z t l c = chain_back legs ks ms (at legs k).to z t l.1 (record { leads = c.leads.1; once = c.once.1 })
 
 -- what the turns of a search keep, from s to s', where it has come to the legs from the number `low` on: it has swept the routes
--- that go on below `low`, the legs left are the others that leave the fix, and it stands where it stood
+-- that go on below `low`, the legs left are the others that leave the fix, and only its best may have changed
 pub record Turns (s : Sweep) (here : ℕ) (s' : Sweep) (left : List ℕ) : Type 0 where
   pub low : ℕ
   pub others : left ≡ leaving (trip_of s).legs here low
   pub swept : Swept (trip_of s) s.best s'.best (GoesBelow s.chain.items low)
-  pub stands : s' ≡ record s { best = s'.best }
+  pub stands : BestAlone s s'
 
 module _ {s : Sweep} {here : ℕ} (ready : Ready s here) where
   abbrev t : Trip
@@ -99,7 +99,7 @@ module _ {s : Sweep} {here : ℕ} (ready : Ready s here) where
       pub swept_deeper : {best : Option Best} → Swept (trip_of s) s.best best (Begins chain.items) → Swept (trip_of s) s.best best (GoesOn s.chain.items k)
       swept_deeper w = swept_of w (λ q flies g. (g.0, g.1 ∙ sym (append_assoc ks (k ∷ []) g.0) ∙ ap (λ l. l ++ g.0) (sym pushed)))
 
-      -- once the leg is taken off and its fix is free again, the search stands where it stood
+      -- once the leg is taken off and its fix is free again, the search is what it was, except for its best
       pub stands_again : (s₂ : Sweep) → s₂ ≡ record s { chain = chain; used = set s.used leg.to true; best = s₂.best } → (chain₂ : ArrayVec ℕ) → chain₂.items ≡ take (length s₂.chain.items - 1) s₂.chain.items → record s₂ { chain = chain₂; used = set s₂.used leg.to false } ≡ record s { best = s₂.best }
       stands_again s₂ e chain₂ popped =
           let free : get_or s.used leg.to false ≡ false = ap (λ y. get_or s.used y false) is ∙ on.1.fresh in
@@ -119,11 +119,11 @@ module _ {s : Sweep} {here : ℕ} (ready : Ready s here) where
   turns_start left is = record { low = 0; others = is; swept = swept_none ready.sound (λ q flies g. let lt = g.1 in absurd (omega arith)); stands = refl }
 
   module _ {s₁ : Sweep} {left : List ℕ} (turns : Turns s here s₁ left) where
-    -- it may go on from where it stands
+    -- it may go on from there
     pub ready_again : Ready s₁ here
     ready_again = subst (λ (x : Sweep). Ready x here) (sym turns.stands) (record { leaves = ready.leaves; useds = ready.useds; walk = ready.walk; sound = turns.swept.sound })
 
-    pub turns_again : (k : ℕ) (rest : List ℕ) → left ≡ k ∷ rest → (s₂ : Sweep) → Swept (trip_of s₁) s₁.best s₂.best (GoesOn s₁.chain.items k) → s₂ ≡ record s₁ { best = s₂.best } → Turns s here s₂ rest
+    pub turns_again : (k : ℕ) (rest : List ℕ) → left ≡ k ∷ rest → (s₂ : Sweep) → Swept (trip_of s₁) s₁.best s₂.best (GoesOn s₁.chain.items k) → BestAlone s₁ s₂ → Turns s here s₂ rest
     turns_again k rest is s₂ turn stands =
         let next = leaving_goes_on t.legs here (sym turns.others ∙ is) in
         let turn' : Swept t s₁.best s₂.best (GoesOn ks k) = subst (λ (x : Sweep). Swept (trip_of x) s₁.best s₂.best (GoesOn x.chain.items k)) turns.stands turn in

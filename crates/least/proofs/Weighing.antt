@@ -1,4 +1,4 @@
--- One list weighed against the best so far.
+-- One list compared with the best so far.
 use Rattle.std.proofs.Common.{◌≡◌, ℕ, Bool, true, Bor, MatchBool, MatchOption, option_copied, ◌⊎◌, List, Some, None, Option, sym, ◌∙◌, subst, subst₂, inl, inr, ⊎_elim}
 use Rattle.chart.specs.Regret.{Trip, Flies, Regret, Beats}
 use Rattle.regret.proofs.Worsts.{regret_is_unique}

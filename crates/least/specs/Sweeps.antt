@@ -27,11 +27,15 @@ abbrev pub Covers : Trip → Option Best → List ℕ → Type 0
 Covers t None q = ⊥
 Covers t (Some b) q = (y : ℕ) → Regret t q y → (b.list.items ≡ q) ⊎ Beats b.regret b.list.items y q
 
--- from the one best to the other: it is still sound, covers what it covered, and every route in S
+-- best' is sound, and covers what best covered and every route in S
 pub record Swept (t : Trip) (best best' : Option Best) (S : List ℕ → Type 0) : Type 0 where
   pub sound : Sound t best'
   pub kept : (q : List ℕ) → Flies t q → Covers t best q → Covers t best' q
   pub all : (q : List ℕ) → Flies t q → S q → Covers t best' q
+
+-- the search is what it was, except for its best
+abbrev pub BestAlone : Sweep → Sweep → Type 0
+BestAlone s s' = s' ≡ record s { best = s'.best }
 
 -- q is p
 abbrev pub Only : List ℕ → List ℕ → Type 0
@@ -49,7 +53,7 @@ GoesBelow ks limit q = (k : ℕ) × (k < limit) × GoesOn ks k q
 abbrev pub Hopeless : Trip → List ℕ → Option Best → Type 0
 Hopeless t ks best = (q : List ℕ) → Flies t q → Begins ks q → Covers t best q
 
--- the search stands at the fix `here`, behind its chain, whose fixes are used
+-- the search is at the fix `here`, where its chain ends, and just the fixes of the chain are used
 pub record Ready (s : Sweep) (here : ℕ) : Type 0 where
   pub leaves : s.ends.from < fixes_of s.snapshot.now
   pub useds : length s.used ≡ max_fixes

@@ -1,18 +1,17 @@
 // All routes that begin with a chain, in the order of their lists.
-ghost use Rattle.std.specs.Prelude.{◌≡◌};
 ghost use Rattle.chart.specs.Floors.{Begins};
-ghost use Rattle.least.specs.Sweeps.{trip_of, Ready, Swept, GoesOn};
+ghost use Rattle.least.specs.Sweeps.{trip_of, Ready, Swept, BestAlone, GoesOn};
 
 use super::sweep::Sweep;
 use regret::walking::step;
 
 impl<'a> Sweep<'a> {
-    // Weighs or drops every route that begins with the chain, which leads to the fix `here`.
+    // Compares every route that begins with the chain, which leads to the fix `here`, with the best so far, or drops it.
     #[cycle(explore)]
     pub(crate) fn explore(&mut self, here: u16)
         requires { Ready self.old here }
         ensures swept { Swept (trip_of self.old) self.old.best self.new.best (Begins self.old.chain.items) }
-        ensures stands { self.new ≡ record self.old { best = self.new.best } }
+        ensures stands { BestAlone self.old self.new }
     {
         if here == self.ends.to {
             self.weigh();
@@ -26,12 +25,12 @@ impl<'a> Sweep<'a> {
         }
     }
 
-    // Weighs or drops every route that begins with the chain and then the leg `k`.
+    // Compares every route that begins with the chain and then the leg `k` with the best so far, or drops it.
     #[cycle(explore)]
     fn explore_leg(&mut self, here: u16, k: u16)
         requires { Ready self.old here }
         ensures swept { Swept (trip_of self.old) self.old.best self.new.best (GoesOn self.old.chain.items k) }
-        ensures stands { self.new ≡ record self.old { best = self.new.best } }
+        ensures stands { BestAlone self.old self.new }
     {
         let Some(leg) = step(self.snapshot, here, &self.used, k) else {
             return;

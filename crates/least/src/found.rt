@@ -1,5 +1,5 @@
-// A route that was found: how many of the first places of the memory its legs take, and its regret. The memory is lent,
-// since no call takes any from a heap.
+// A route that was found: how many of the first places of the memory its legs take, and its regret. The memory is the
+// caller's, since no call allocates any.
 #[derive(Clone, Copy, Debug, PartialEq, Eq)]
 pub struct Found {
     pub legs: u16,

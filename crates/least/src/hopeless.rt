@@ -1,5 +1,5 @@
 // What the search may drop: a chain that no route begins with which could replace the best so far. Every reason to drop a
-// chain stands here.
+// chain is in this file.
 ghost use Rattle.std.specs.Prelude.{MatchBool};
 ghost use Rattle.least.specs.Sweeps.{trip_of, Hopeless};
 

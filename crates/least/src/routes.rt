@@ -1,4 +1,4 @@
-// The route of least regret, written into memory that is lent.
+// The route of least regret, written into the caller's memory.
 ghost use Rattle.std.specs.Prelude.{◌≡◌};
 ghost use Rattle.chart.specs.Regret.{trip, LeastRegretIsUnique};
 ghost use Rattle.search.specs.Snapshots.{legs_of};
@@ -12,6 +12,7 @@ use arrayvec::ArrayVec;
 use chart::charts::Chart;
 use chart::ends::Ends;
 use chart::limits::MAX_FIXES;
+use chart::routes::most_legs;
 use search::snapshot::Snapshot;
 
 // The best of all routes between two ends, and its regret.
@@ -44,7 +45,7 @@ pub fn least_regret<C: Chart>(
     ensures answers { RouteAnswer (trip (C.legs chart.now) ends.from ends.to) (C.fixes chart.now) memory.old result memory.new }
     ensures unique { LeastRegretIsUnique }
 {
-    if memory.len() + 1 < chart.n() as usize {
+    if memory.len() < most_legs(chart) as usize {
         return Err(RouteRefusal::ShortMemory);
     }
     let snapshot = Snapshot::of(chart);

@@ -22,8 +22,8 @@ impl Best {
     }
 }
 
-// The search stands at the end of a chain. The fixes that the chain meets are flagged: a set of fixed size, since no call
-// takes memory from a heap.
+// The search: the chain that it has come along, whose fixes are flagged, and the best route so far. The flags are a set of
+// fixed size, since no call allocates memory.
 #[derive(Drop)]
 pub(crate) struct Sweep<'a> {
     pub(crate) snapshot: &'a Snapshot,

@@ -1,6 +1,5 @@
-// A chain weighed against the best route so far.
-ghost use Rattle.std.specs.Prelude.{◌≡◌};
-ghost use Rattle.least.specs.Sweeps.{trip_of, Sound, Swept, Only};
+// A chain compared with the best route so far.
+ghost use Rattle.least.specs.Sweeps.{trip_of, Sound, Swept, BestAlone, Only};
 
 use super::sweep::{Best, Sweep};
 use arrayvec::ArrayVec;
@@ -11,7 +10,7 @@ impl<'a> Sweep<'a> {
     pub(crate) fn weigh(&mut self)
         requires { Sound (trip_of self.old) self.old.best }
         ensures swept { Swept (trip_of self.old) self.old.best self.new.best (Only self.old.chain.items) }
-        ensures stands { self.new ≡ record self.old { best = self.new.best } }
+        ensures stands { BestAlone self.old self.new }
     {
         let list = self.chain.as_slice();
         let Ok(regret) = regret_on(self.snapshot, self.ends, list) else {

@@ -1,7 +1,8 @@
 -- The regret of a route from the best total in its worst choice, and a walk one leg longer.
-use Rattle.std.proofs.Common.{◌≡◌, ℕ, ◌+◌, ◌-◌, ◌*◌, ◌<◌, ◌≤◌, Bool, true, false, List, [], ◌∷◌, ◌++◌, length, get_or, take, set, replicate, Some, Ok, Err, sym, ap, ◌∙◌, subst, subst₂, arith}
+use Rattle.std.proofs.Common.{◌≡◌, ℕ, ◌+◌, ◌-◌, ◌*◌, ◌<◌, ◌≤◌, Bool, true, false, List, [], ◌∷◌, ◌++◌, length, get_or, take, set, replicate, Some, None, MatchOption, Option, eqb, Ok, Err, sym, ap, ◌∙◌, subst, subst₂, arith}
+use Rattle.std.specs.Bool.{then_some}
 use Rattle.std.proofs.lemmas.List.{take_more}
-use Rattle.std.proofs.lemmas.Bool.{false_from_ne_true}
+use Rattle.std.proofs.lemmas.Bool.{false_from_ne_true, eqb-true, eqb-false}
 use Rattle.chart.specs.declared.leg.Leg.{Leg}
 use Rattle.chart.specs.Limits.{max_fixes, max_legs, max_seconds}
 use Rattle.chart.specs.Legs.{at, Charted}
@@ -10,10 +11,11 @@ use Rattle.chart.specs.Kinds.{seconds_rule}
 use Rattle.chart.specs.Best.{total_from, Best}
 use Rattle.chart.specs.Regret.{Trip, trip, Flies, time, LeastTime, Worst}
 use Rattle.chart.specs.Floors.{highs}
+use Rattle.chart.proofs.Chains.{leads_end}
 use Rattle.chart.proofs.Short.{chain_short}
 use Rattle.chart.proofs.Within.{route_goes_away}
 use Rattle.regret.specs.declared.walked.Walked.{Walked}
-use Rattle.regret.specs.Walks.{Flags, Steps, StepsAlong, Walk, Along}
+use Rattle.regret.specs.Walks.{Flags, Steps, StepsAlong, Walk, Along, WalkedAlong}
 use Rattle.regret.specs.Marked.{time_by, marked_times}
 use Rattle.regret.specs.declared.refusals.RegretRefusal.{RegretRefusal}
 use Rattle.regret.specs.declared.refusals.RegretRefusal.TheVariants.{NotARoute}
@@ -49,8 +51,9 @@ marks_worst legs marks p f = record {
 }
 
 -- before the first leg
-pub along_start : (legs : List Leg) (s : ℕ) (w : Walked) → s < max_fixes → w.end ≡ s → w.high ≡ 0 → w.used ≡ set (replicate max_fixes false) s true → w.marks ≡ replicate max_legs false → Along legs s [] w
-along_start legs s w lt end high used marks = record {
+pub along_start : (legs : List Leg) (s : ℕ) (w : Walked) → s < max_fixes → w.from ≡ s → w.end ≡ s → w.high ≡ 0 → w.used ≡ set (replicate max_fixes false) s true → w.marks ≡ replicate max_legs false → Along legs s [] w
+along_start legs s w lt from end high used marks = record {
+  from = from;
   walk = subst₂ (λ z u. Walk legs s [] z u) (sym end) (sym used) (walk_start legs max_fixes s lt);
   flags = subst (λ m. Flags m []) (sym marks) (flags_none max_legs);
   sums = high;
@@ -81,8 +84,8 @@ step_known legs charted z used k leg e st =
 
 -- one leg on
 module _ {fixes : ℕ} (legs : List Leg) (charted : Charted fixes legs) (s : ℕ) (list : List ℕ) (i : ℕ) (w : Walked) (along : Along legs s (take i list) w) where
-  pub along_again : i < length list → (leg : Leg) → StepsAlong legs w.end w.used (get_or list i 0) (Some leg) → (w' : Walked) → w'.end ≡ leg.to → w'.high ≡ w.high + leg.high → w'.used ≡ set w.used leg.to true → w'.marks ≡ set w.marks (get_or list i 0) true → Along legs s (take (i + 1) list) w'
-  along_again lt leg st w' end high used marks =
+  pub along_again : i < length list → (leg : Leg) → StepsAlong legs w.end w.used (get_or list i 0) (Some leg) → (w' : Walked) → w'.from ≡ w.from → w'.end ≡ leg.to → w'.high ≡ w.high + leg.high → w'.used ≡ set w.used leg.to true → w'.marks ≡ set w.marks (get_or list i 0) true → Along legs s (take (i + 1) list) w'
+  along_again lt leg st w' from end high used marks =
       let k = get_or list i 0 in
       let m = take_more list i 0 lt in
       let known = step_known legs charted w.end w.used k leg st.0 st.1 in
@@ -90,6 +93,7 @@ module _ {fixes : ℕ} (legs : List Leg) (charted : Charted fixes legs) (s : ℕ
       let h : leg.high ≡ (at legs k).high = ap (λ (l : Leg). l.high) st.0 in
       let walk = walk_push legs s (take i list) w.end w.used along.walk k st.1 (omega (arith, known.to_small, w.flagged)) in
       record {
+        from = from ∙ along.from;
         walk = subst (λ ks. Walk legs s ks w'.end w'.used) (sym m)
             (subst₂ (λ z u. Walk legs s (take i list ++ k ∷ []) z u) (sym (end ∙ to)) (sym (used ∙ ap (λ x. set w.used x true) to)) walk);
         flags = subst₂ (λ u ks. Flags u ks) (sym marks) (sym m) (flags_push w.marks (take i list) k (omega (arith, known.number_small, w.marked)) along.flags);
@@ -113,6 +117,19 @@ regret_found legs s t ks w along e b best =
     let least = best_is_least legs s t w.marks b best in
     let below : b ≤ w.high = omega (arith, along.sums, least.least ks route) in
     (below, (route, worst_choice_gives_regret (trip legs s t) ks (chosen legs w.marks) b (w.high - b) route worst least (omega (arith, along.sums))))
+
+-- what is known of a list where its walk is kept only if it ends at t
+abbrev pub WalkedTo : ℕ → List Leg → ℕ → ℕ → List ℕ → Option Walked → Type 0
+WalkedTo fixes legs s t ks None = s < fixes → Chain legs s ks t → ⊥
+WalkedTo fixes legs s t ks (Some w) = Along legs s ks w × (w.end ≡ t)
+
+pub walked_to : (fixes : ℕ) (legs : List Leg) (s t : ℕ) (ks : List ℕ) (o r : Option Walked) (P : Walked → Bool → Type 0) → WalkedAlong fixes legs s ks o → MatchOption o (r ≡ None) (λ w. (b : Bool) × P w b × (r ≡ then_some b w)) → ((w : Walked) (b : Bool) → P w b → b ≡ eqb w.end t) → WalkedTo fixes legs s t ks r
+walked_to fixes legs s t ks None r P walked m test = rw m (λ lt. walked lt t)
+walked_to fixes legs s t ks (Some w) r P walked m test = rw m.2 (by_test m.0 (test w m.0 m.1))
+  where
+    by_test : (b : Bool) → b ≡ eqb w.end t → WalkedTo fixes legs s t ks (then_some b w)
+    by_test true e = (walked.1, eqb-true w.end t (sym e))
+    by_test false e = λ lt c. eqb-false w.end t (sym e) (leads_end legs ks s w.end t walked.1.walk.chain.leads c.leads)
 
 -- the one refusal says that the list is no route
 pub not_a_route : (t : Trip) (ks : List ℕ) (e : RegretRefusal) → (Flies t ks → ⊥) → RegretAnswer t ks (Err e)

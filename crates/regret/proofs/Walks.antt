@@ -1,14 +1,16 @@
 -- A walk one leg longer, where it cannot go on, and where it ends.
-use Rattle.std.proofs.Common.{◌≡◌, ℕ, ◌+◌, ◌<◌, Bool, true, false, List, [], ◌∷◌, ◌++◌, length, get_or, take, drop, set, replicate, sym, refl, ap, ◌∙◌, subst, arith}
+use Rattle.std.proofs.Common.{◌≡◌, ℕ, ◌+◌, ◌<◌, Bool, true, false, MatchBool, Some, None, MatchOption, Option, List, [], ◌∷◌, ◌++◌, length, get_or, take, drop, set, replicate, sym, refl, ap, ◌∙◌, subst, arith}
+use Rattle.std.specs.Bool.{then_some}
 use Rattle.std.proofs.lemmas.List.{length-replicate, take-append-drop, drop_more}
 use Rattle.std.proofs.lemmas.Grind.{common_steps}
 use Rattle.std.proofs.lemmas.Bool.{cases_eq, cases_lt, false_from_ne_true}
 use Rattle.chart.specs.declared.leg.Leg.{Leg}
 use Rattle.chart.specs.declared.row.Standing.TheVariants.{Open}
-use Rattle.chart.specs.Legs.{at}
+use Rattle.chart.specs.Legs.{at, numbered}
 use Rattle.chart.specs.Routes.{entered, met, Once, Chain}
 use Rattle.chart.proofs.Chains.{leads_push, leads_on, entered_append, in_front, in_mid, in_end, once_push, once_at}
-use Rattle.regret.specs.Walks.{Flags, Walk, Steps, NoChain}
+use Rattle.chart.proofs.Numbers.{numbered_some, numbered_not}
+use Rattle.regret.specs.Walks.{Flags, Walk, Steps, StepsAlong, NoChain}
 
 pub true_false : (b : Bool) → b ≡ true → b ≡ false → ⊥
 true_false b p r = cc
@@ -59,11 +61,27 @@ read_steps legs z used k leg lt e from stands fresh = record {
   fresh = cc;
 }
 
+-- the leg leads on from z to a fix that is not used
+abbrev pub LeadsOn : ℕ → List Bool → Leg → Type 0
+LeadsOn z used leg = (leg.from ≡ z) × (leg.standing ≡ Open) × (get_or used leg.to false ≡ false)
+
+-- a leg that was read and is kept only if it leads on
+pub stepped : (legs : List Leg) (z : ℕ) (used : List Bool) (k : ℕ) (o r : Option Leg) (P : Leg → Bool → Type 0) → o ≡ numbered legs k → MatchOption o (r ≡ None) (λ l. (b : Bool) × P l b × (r ≡ then_some b l)) → ((l : Leg) (b : Bool) → P l b → MatchBool b (LeadsOn z used l) (LeadsOn z used l → ⊥)) → StepsAlong legs z used k r
+stepped legs z used k None r P is m test = rw m (λ st. numbered_not legs k st.leaves.there (sym is))
+stepped legs z used k (Some l) r P is m test = rw m.2 (by_test m.0 (test l m.0 m.1))
+  where
+    leg : (k < length legs) × (l ≡ at legs k)
+    leg = numbered_some legs k l is
+
+    by_test : (b : Bool) → MatchBool b (LeadsOn z used l) (LeadsOn z used l → ⊥) → StepsAlong legs z used k (then_some b l)
+    by_test true on = (leg.1, read_steps legs z used k l leg.0 leg.1 on.0 on.1 on.2)
+    by_test false off = λ st. let e = leg.1 in let from = st.leaves.from in let stands = st.leaves.stands in let fresh = st.fresh in off (cc, cc, cc)
+
 -- a list at one of its places
 pub split_at : (list : List ℕ) (i : ℕ) → i < length list → list ≡ take i list ++ get_or list i 0 ∷ drop (i + 1) list
 split_at list i lt = sym (take-append-drop i list) ∙ ap (λ r. take i list ++ r) (drop_more list i 0 lt)
 
--- a walk along the front of a list that does not go on
+-- a walk along the first legs of a list that does not go on
 pub walk_stuck : (legs : List Leg) (s : ℕ) (list : List ℕ) (i z : ℕ) (used : List Bool) → Walk legs s (take i list) z used → i < length list → (Steps legs z used (get_or list i 0) → ⊥) → NoChain legs s list
 walk_stuck legs s list i z used walk lt n t c =
     n (chain_steps legs s (take i list) z used walk (get_or list i 0) t (drop (i + 1) list) (subst (λ ks. Chain legs s ks t) (split_at list i lt) c))

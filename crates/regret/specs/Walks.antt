@@ -27,8 +27,9 @@ pub record Walk (legs : List Leg) (s : ℕ) (ks : List ℕ) (z : ℕ) (used : Li
   pub chain : Chain legs s ks z
   pub flags : Flags used (met legs s ks)
 
--- w is the walk along the legs ks from s: it has the fixes that they meet used and the legs marked, and sums their high times
+-- w is the walk along the legs ks from s: it has s, the fixes that they meet used and the legs marked, and sums their high times
 pub record Along (legs : List Leg) (s : ℕ) (ks : List ℕ) (w : Walked) : Type 0 where
+  pub from : w.from ≡ s
   pub walk : Walk legs s ks w.end w.used
   pub flags : Flags w.marks ks
   pub sums : w.high ≡ time (highs legs) ks

@@ -1,4 +1,4 @@
-// The regret of a route: what it can lose at worst against the route that would have been best.
+// The regret of a route: the most by which its time can be above that of the route that would have been best.
 #![tactic(auto)]
 
 pub mod marked;

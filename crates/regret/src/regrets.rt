@@ -4,29 +4,21 @@ ghost use Rattle.chart.specs.Regret.{trip, WorstChoiceGivesRegret, RegretIsUniqu
 ghost use Rattle.search.specs.Snapshots.{legs_of};
 ghost use Rattle.regret.specs.Answers.{RegretAnswer};
 
-use super::marked::Marked;
+use super::marked::least_time;
 use super::refusals::RegretRefusal;
 use super::walking::walk;
 use chart::charts::Chart;
 use chart::ends::Ends;
-use chart::kinds::Seconds;
-use search::best::best_on;
 use search::snapshot::Snapshot;
 
-// The regret of a list of legs between two ends, on a snapshot that serves many questions.
+// The regret of a list of legs between two ends, on a snapshot, which is made once for many questions.
 pub fn regret_on(snapshot: &Snapshot, ends: Ends, list: &[u16]) -> Result<u32, RegretRefusal>
     ensures { RegretAnswer (trip (legs_of snapshot.now) ends.from ends.to) list.now result }
 {
-    let walked = walk(snapshot, ends.from, list).ok_or(RegretRefusal::NotARoute)?;
-    if walked.end != ends.to {
-        return Err(RegretRefusal::NotARoute);
-    }
-    let worst = Seconds {
-        choice: Marked {
-            marks: &walked.marks,
-        },
-    };
-    let best = best_on(snapshot, &worst, ends).ok_or(RegretRefusal::NotARoute)?;
+    let walked = walk(snapshot, ends.from, list)
+        .filter(|walked| walked.end == ends.to)
+        .ok_or(RegretRefusal::NotARoute)?;
+    let best = least_time(snapshot, &walked.marks, ends).ok_or(RegretRefusal::NotARoute)?;
     Ok(walked.high - best)
 }
 

@@ -5,10 +5,11 @@ ghost use Rattle.chart.specs.Limits.{max_fixes, max_legs};
 use chart::leg::Leg;
 use chart::limits::{MAX_FIXES, MAX_LEGS};
 
-// Where it ends, the sum of its high times, a flag for each fix that it meets, and a mark for each of its legs: sets of
-// fixed size, since no call takes memory from a heap.
+// Where it begins and ends, the sum of its high times, a flag for each fix that it meets, and a mark for each of its
+// legs: sets of fixed size, since no call allocates memory.
 #[derive(Clone, Copy)]
 pub struct Walked {
+    pub from: u16,
     pub end: u16,
     pub high: u32,
     pub used: [bool; MAX_FIXES],
@@ -21,6 +22,7 @@ impl Walked {
     // At a fix, with no leg flown.
     pub(crate) fn at(from: u16) -> Walked
         requires { from < max_fixes }
+        ensures from { result.from ≡ from }
         ensures end { result.end ≡ from }
         ensures high { result.high ≡ 0 }
         ensures used { result.used ≡ slice_set (replicate max_fixes false) from true }
@@ -29,6 +31,7 @@ impl Walked {
         let mut used = [false; MAX_FIXES];
         used[from as usize] = true;
         Walked {
+            from,
             end: from,
             high: 0,
             used,
@@ -40,6 +43,7 @@ impl Walked {
     pub(crate) fn fly(&mut self, k: u16, leg: &Leg)
         requires places { (leg.now.to < max_fixes) × (k < max_legs) }
         requires sum { self.old.high + leg.now.high < 2 ^ 32 }
+        ensures from { self.new.from ≡ self.old.from }
         ensures end { self.new.end ≡ leg.now.to }
         ensures high { self.new.high ≡ self.old.high + leg.now.high }
         ensures used { self.new.used ≡ slice_set self.old.used leg.now.to true }

@@ -13,17 +13,9 @@ use search::snapshot::Snapshot;
 pub fn step(snapshot: &Snapshot, here: u16, used: &[bool], k: u16) -> Option<Leg>
     ensures { StepsAlong (legs_of snapshot.now) here used.now k result }
 {
-    let leg = snapshot.leg(k)?;
-    if leg.from != here {
-        return None;
-    }
-    if let Standing::Closed = leg.standing {
-        return None;
-    }
-    if is_marked(used, leg.to) {
-        return None;
-    }
-    Some(leg)
+    snapshot.leg(k).filter(|leg| {
+        leg.from == here && leg.standing == Standing::Open && !is_marked(used, leg.to)
+    })
 }
 
 // What is known of the list as a chain from a fix of the chart; none where it is no chain.

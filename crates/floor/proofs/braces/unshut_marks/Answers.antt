@@ -17,7 +17,7 @@ loop-k-preserved c =
     let few = (snapshot_charted s).few in
     let there = numbered_there (legs_of s) k (omega arith) in
     let post = rw (c.leg.ensures, there) at c.is_some_and.ensures in
-    let tells : TellsShut c.args.departure c.args.walked.now k (at (legs_of s) k) c.is_some_and.result = search rules in
+    let tells : TellsShut c.args.walked.now k (at (legs_of s) k) c.is_some_and.result = search rules in
     record {
       whole = length-set c.loop-k.marks k (not c.is_some_and.result) ∙ c.loop-k.invariant.whole;
       told = λ ks along. unshut_again (legs_of s) ks c.loop-k.marks k c.is_some_and.result (omega (arith, c.loop-k.invariant.whole)) (c.loop-k.invariant.told ks along) (tells (legs_of s) ks along refl);

@@ -5,4 +5,4 @@ use Rattle.floor.specs.Braces.{MarksUnshut}
 use Rattle.floor.proofs.braces.unshut_marks.Given as goal
 
 abbrev pub invariant-loop-k : goal.invariant-loop-k
-invariant-loop-k l = record { whole : length l.marks ≡ max_legs; told : MarksUnshut (legs_of l.snapshot) l.departure l.walked l.marks l.k-counter }
+invariant-loop-k l = record { whole : length l.marks ≡ max_legs; told : MarksUnshut (legs_of l.snapshot) l.walked l.marks l.k-counter }

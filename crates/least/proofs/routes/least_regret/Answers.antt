@@ -11,10 +11,10 @@ fits : (g : _) (c : In_ok-best g) → length c.in_ok-best.best.list.items ≤ le
 fits g c =
     let ends = c.args.ends in
     let least = subst₂ (λ l o. Least (trip l ends.from ends.to) o) c.of-snapshot.ensures.same_legs c.in_ok-best.ensures.ok_part c.find.ensures in
-    best_fits (trip (g.C.Chart.legs c.args.chart.now) ends.from ends.to) (g.C.Chart.charted c.args.chart.now) c.in_ok-best.best least c.args.memory.now (omega (arith, c.if-memory-n.false, c.n.ensures))
+    best_fits (trip (g.C.Chart.legs c.args.chart.now) ends.from ends.to) (g.C.Chart.charted c.args.chart.now) c.in_ok-best.best least c.args.memory.now (omega (arith, c.if-memory-most_legs.false, c.most_legs.ensures))
 
-pub returns-then-memory-n-clause-unique : goal.returns-then-memory-n-clause-unique
-returns-then-memory-n-clause-unique g c = least_regret_is_unique
+pub returns-then-memory-most_legs-clause-unique : goal.returns-then-memory-most_legs-clause-unique
+returns-then-memory-most_legs-clause-unique g c = least_regret_is_unique
 
 pub returns-in_err-best-clause-unique : goal.returns-in_err-best-clause-unique
 returns-in_err-best-clause-unique g c = least_regret_is_unique

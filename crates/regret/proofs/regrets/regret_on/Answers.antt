@@ -1,28 +1,21 @@
-use Rattle.std.proofs.Common.{◌-◌, ◌≤◌, Ok, arith}
+use Rattle.std.proofs.Common.{◌-◌, ◌≤◌, Ok, arith, rules}
 use Rattle.std.proofs.lemmas.Result.{err_from_is_err_and}
 use Rattle.chart.specs.Regret.{trip}
 use Rattle.search.specs.Snapshots.{legs_of}
 use Rattle.search.specs.Sound.{snapshot_charted}
-use Rattle.chart.proofs.Chains.{leads_end}
 use Rattle.chart.proofs.Within.{route_leaves_fix}
 use Rattle.regret.specs.Answers.{RegretAnswer}
-use Rattle.regret.proofs.Losing.{regret_found, not_a_route}
+use Rattle.regret.proofs.Losing.{walked_to, regret_found, not_a_route}
 use Rattle.regret.proofs.regrets.regret_on.Goals as goal
 
 pub returns-in_err-walked : goal.returns-in_err-walked
 returns-in_err-walked c =
     let s = c.args.snapshot.now in
     let ends = c.args.ends in
-    let none = rw c.in_err-walked.ensures.ok_part at c.walk.ensures in
+    let none = rw c.in_err-walked.ensures.ok_part at (walked_to _ _ _ c.args.ends.to _ c.walk.result _ _ c.walk.ensures c.filter.ensures (λ w b post. search rules)) in
     let p = err_from_is_err_and c.from_residual.result c.from_residual.ensures.1 in
     rw p.1 (not_a_route (trip (legs_of s) ends.from ends.to) c.args.list.now _ (λ flies.
-    none (route_leaves_fix (legs_of s) (snapshot_charted s) ends.from ends.to c.args.list.now flies) ends.to flies.chain))
-
-pub returns-then-walked-ends : goal.returns-then-walked-ends
-returns-then-walked-ends c flies =
-    let s = c.args.snapshot.now in
-    let along = (rw c.in_ok-walked.ensures.ok_part at c.walk.ensures).1 in
-    c.if-walked-ends.true (leads_end (legs_of s) c.args.list.now c.args.ends.from c.in_ok-walked.walked.end c.args.ends.to along.walk.chain.leads flies.chain.leads)
+    none (route_leaves_fix (legs_of s) (snapshot_charted s) ends.from ends.to c.args.list.now flies) flies.chain))
 
 -- where both calls found something
 found : (c : goal.In_ok-best) → (c.in_ok-best.best ≤ c.in_ok-walked.walked.high) × RegretAnswer (trip (legs_of c.args.snapshot.now) c.args.ends.from c.args.ends.to) c.args.list.now (Ok (c.in_ok-walked.walked.high - c.in_ok-best.best))
@@ -30,9 +23,9 @@ found c =
     let s = c.args.snapshot.now in
     let ends = c.args.ends in
     let w = c.in_ok-walked.walked in
-    let along = rw c.in_ok-walked.ensures.ok_part at c.walk.ensures in
-    let best = rw c.in_ok-best.ensures.ok_part at c.best_on.ensures in
-    regret_found (legs_of s) ends.from ends.to c.args.list.now w along.1 c.if-walked-ends.false c.in_ok-best.best best
+    let along = rw c.in_ok-walked.ensures.ok_part at (walked_to _ _ _ c.args.ends.to _ c.walk.result _ _ c.walk.ensures c.filter.ensures (λ w b post. search rules)) in
+    let best = rw c.in_ok-best.ensures.ok_part at c.least_time.ensures in
+    regret_found (legs_of s) ends.from ends.to c.args.list.now w along.0 along.1 c.in_ok-best.best best
 
 pub overflow_sub-result : goal.overflow_sub-result
 overflow_sub-result c = let below = (found c).0 in omega arith

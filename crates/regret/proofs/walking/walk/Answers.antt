@@ -9,7 +9,7 @@ pub loop-k-init : goal.loop-k-init
 loop-k-init c =
     let s = c.args.snapshot.now in
     let at = c.at-walked.ensures in
-    along_start (legs_of s) c.args.from c.at-walked.result (omega (arith, (snapshot_charted s).most)) at.end at.high at.used at.marks
+    along_start (legs_of s) c.args.from c.at-walked.result (omega (arith, (snapshot_charted s).most)) at.from at.end at.high at.used at.marks
 
 pub returns-in_err-leg : goal.returns-in_err-leg
 returns-in_err-leg c =
@@ -34,4 +34,4 @@ pub loop-k-preserved : goal.loop-k-preserved
 loop-k-preserved c =
     let s = c.args.snapshot.now in
     let flown = c.fly.ensures in
-    along_again (legs_of s) (snapshot_charted s) c.args.from c.args.list.now c.loop-k.k-index c.loop-k.walked c.loop-k.invariant c.loop-k-test.true c.in_ok-leg.leg c.in_ok-leg.ensures c.fly.new.self flown.end flown.high flown.used flown.marks
+    along_again (legs_of s) (snapshot_charted s) c.args.from c.args.list.now c.loop-k.k-index c.loop-k.walked c.loop-k.invariant c.loop-k-test.true c.in_ok-leg.leg c.in_ok-leg.ensures c.fly.new.self flown.from flown.end flown.high flown.used flown.marks
