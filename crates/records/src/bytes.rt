@@ -47,10 +47,8 @@ impl<'a> Part<'a> {
         let [a, b, body @ ..] = bytes else {
             return Err(BytesFault::Short { place });
         };
-        match decide(*a, *b) {
-            Some(kind) => Ok((kind, Part { bytes: body, place })),
-            None => Err(BytesFault::Unknown { place }),
-        }
+        let kind = decide(*a, *b).ok_or(BytesFault::Unknown { place })?;
+        Ok((kind, Part { bytes: body, place }))
     }
 
     // The first bytes of a body, as many as given, or the fault that there are fewer.

@@ -1,8 +1,8 @@
 // The bodies of records, each read into a record whose name, where it has one, is that part of the file itself.
-ghost use Rattle.std.specs.Prelude.{◌≡◌, ℕ, ◌+◌, ◌<◌, ◌≤◌, length, Decides, MatchResult};
+ghost use Rattle.std.specs.Prelude.{◌≡◌, Decides, MatchResult};
 ghost use Rattle.records.specs.Format.{Sign, Named};
 ghost use Rattle.records.specs.Reports.{record_report, chart_report, Fails};
-ghost use Rattle.records.specs.Checks.{Pass, Marked, mark_checks, due_checks, chart_body, fix_body, leg_body, body_checks, fixes_in, legs_in, name_in, leg_in};
+ghost use Rattle.records.specs.Checks.{Pass, due_checks, chart_body, fix_body, leg_body, body_checks, fixes_in, legs_in, name_in, leg_in};
 ghost use Rattle.records.specs.Bodies.{IsBody, Says};
 
 use super::bytes::Part;
@@ -93,22 +93,13 @@ impl<'a> Part<'a> {
         }
     }
 
-    // The kind of the record and its body, with a fault of the bytes as one of the record.
-    fn marked(&self) -> Result<(RecordKind, Part<'a>), RecordFault>
-        ensures { MatchResult result
-            (λ k. (2 ≤ length self.now.bytes.now) × Marked k.0 self.now.bytes.now × IsBody self.now k.1)
-            (λ e. Fails (mark_checks self.now.bytes.now) self.now.place (record_report e)) }
-    {
-        Ok(self.opened()?)
-    }
-
     // The body of the record whose mark these bytes begin with, where it is of the kind that is due.
     pub fn due(&self, kind: RecordKind) -> Result<Part<'a>, ChartFault>
         ensures { MatchResult result
             (λ b. Pass (due_checks kind self.now.bytes.now) × IsBody self.now b)
             (λ e. Fails (due_checks kind self.now.bytes.now) self.now.place (chart_report e)) }
     {
-        let (found, body) = self.marked()?;
+        let (found, body) = self.opened().map_err(RecordFault::from)?;
         if found != kind {
             return Err(ChartFault::OutOfPlace { place: self.place });
         }
