@@ -53,9 +53,7 @@ impl<'a> Reader<'a> {
             (λ name. Names self.now.cursor.file.now (names_of self.now) fix name)
             (λ _. length (names_of self.now) ≤ fix) }
     {
-        let Some(start) = self.starts.get(fix as usize) else {
-            return Err(NoSuchFix);
-        };
+        let start = self.starts.get(fix as usize).ok_or(NoSuchFix)?;
         Ok(FixName {
             text: name_at(self.cursor.file, *start),
             place: start + MARK_BYTES + 1,
