@@ -43,9 +43,12 @@ impl<'a> Part<'a> {
             (λ x. Pass (chart_body self.now.bytes.now) × (x ≡ Record.Chart (fixes_in self.now.bytes.now) (legs_in self.now.bytes.now)))
             (λ e. Fails (chart_body self.now.bytes.now) self.now.place (record_report e)) }
     {
-        let body = self.complete(CHART_BODY)?;
-        let fixes = u16::from(body[0]);
-        let legs = u16::from_be_bytes([body[1], body[2]]);
+        let (&[fixes, high, low], _) = self
+            .bytes
+            .split_first_chunk::<CHART_BODY>()
+            .ok_or(BytesFault::Short { place: self.place })?;
+        let fixes = u16::from(fixes);
+        let legs = u16::from_be_bytes([high, low]);
         if !are_counts(fixes, legs as usize) {
             return Err(RecordFault::BadCounts { place: self.place });
         }
