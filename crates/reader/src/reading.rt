@@ -27,8 +27,7 @@ impl Cursor<'_> {
     {
         let rest = self.rest();
         let mut guard = Guard::new(&mut self.place);
-        let body = rest.due(RecordKind::Chart)?;
-        let Record::Chart { fixes, legs } = body.record(RecordKind::Chart)? else {
+        let Record::Chart { fixes, legs } = rest.due_record(RecordKind::Chart)? else {
             unreachable!();
         };
         if legs as usize > room {
@@ -50,8 +49,7 @@ impl Cursor<'_> {
     {
         let rest = self.rest();
         let mut guard = Guard::new(&mut self.place);
-        let body = rest.due(RecordKind::Fix)?;
-        let Record::Fix { name } = body.record(RecordKind::Fix)? else {
+        let Record::Fix { name } = rest.due_record(RecordKind::Fix)? else {
             unreachable!();
         };
         if !is_fresh(self.file, starts, name) {
@@ -72,8 +70,7 @@ impl Cursor<'_> {
     {
         let rest = self.rest();
         let mut guard = Guard::new(&mut self.place);
-        let body = rest.due(RecordKind::Leg)?;
-        let Record::Leg { row } = body.record(RecordKind::Leg)? else {
+        let Record::Leg { row } = rest.due_record(RecordKind::Leg)? else {
             unreachable!();
         };
         if !row.is_placed(n) {

@@ -1,8 +1,8 @@
 // The bodies of records, each read into a record whose name, where it has one, is that part of the file itself.
-ghost use Rattle.std.specs.Prelude.{◌≡◌, Decides, MatchResult};
+ghost use Rattle.std.specs.Prelude.{◌≡◌, ◌++◌, Decides, MatchResult};
 ghost use Rattle.records.specs.Format.{Sign, Named};
 ghost use Rattle.records.specs.Reports.{record_report, chart_report, Fails};
-ghost use Rattle.records.specs.Checks.{Pass, due_checks, chart_body, fix_body, leg_body, body_checks, fixes_in, legs_in, name_in, leg_in};
+ghost use Rattle.records.specs.Checks.{Pass, body, due_checks, chart_body, fix_body, leg_body, body_checks, fixes_in, legs_in, name_in, leg_in};
 ghost use Rattle.records.specs.Bodies.{IsBody, Says};
 
 use super::bytes::Part;
@@ -107,5 +107,14 @@ impl<'a> Part<'a> {
             return Err(ChartFault::OutOfPlace { place: self.place });
         }
         Ok(body)
+    }
+
+    // The record whose mark these bytes begin with, where it is of the kind that is due.
+    pub fn due_record(&self, kind: RecordKind) -> Result<Record<'a>, ChartFault>
+        ensures { MatchResult result
+            (λ x. Pass (due_checks kind self.now.bytes.now ++ body_checks kind (body self.now.bytes.now)) × Says kind (body self.now.bytes.now) x)
+            (λ e. Fails (due_checks kind self.now.bytes.now ++ body_checks kind (body self.now.bytes.now)) self.now.place (chart_report e)) }
+    {
+        Ok(self.due(kind)?.record(kind)?)
     }
 }
