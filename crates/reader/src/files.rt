@@ -3,7 +3,7 @@ ghost use Rattle.std.specs.Prelude.{◌≡◌, ℕ, ◌+◌, ◌*◌, ◌<◌, �
 ghost use Rattle.records.specs.Reports.{chart_report};
 ghost use Rattle.records.specs.Checks.{body, legs_in, leg_in};
 ghost use Rattle.records.specs.Faults.{Owed};
-ghost use Rattle.reader.specs.Places.{Inside, Naming, Along, Ended, Stops, StopsAlong, Filled, Checked};
+ghost use Rattle.reader.specs.Places.{Inside, Naming, Along, Ended, Stops, StopsAlong, legs_at, Checked};
 
 use super::counts::Counts;
 use super::cursor::Cursor;
@@ -101,12 +101,11 @@ fn leg_at(file: &[u8], at: usize) -> Row
     leg_row(onward(onward(file, at), MARK_BYTES)).unwrap()
 }
 
-// Puts the legs whose records stand in the file from a place on into the first rows.
-pub(crate) fn fill(file: &[u8], base: usize, legs: u16, memory: &mut [Row])
-    requires { (base + 14 * legs ≤ length file.now) × (legs ≤ length memory.old) }
-    ensures { Filled file.now base legs memory.old memory.new }
+// Puts the legs whose records stand in the file from a place on into rows.
+pub(crate) fn fill(file: &[u8], base: usize, rows: &mut [Row])
+    requires { base + 14 * length rows.old ≤ length file.now }
+    ensures { rows.new ≡ legs_at file.now base (length rows.old) }
 {
-    let rows = &mut memory[..legs as usize];
     for (k, row) in rows.iter_mut().enumerate() {
         *row = leg_at(file, base + (MARK_BYTES + LEG_BODY) * k);
     }

@@ -41,7 +41,8 @@ impl<'a> Reader<'a> {
         ensures one_verdict { Sole self.old.cursor.file.now (length memory.old) }
     {
         let found = self.cursor.check_file(memory.len())?;
-        fill(self.cursor.file, found.base, found.counts.legs, memory);
+        let rows = &mut memory[..found.counts.legs as usize];
+        fill(self.cursor.file, found.base, rows);
         self.starts = found.starts;
         Ok(found.counts)
     }
