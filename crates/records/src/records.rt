@@ -82,7 +82,8 @@ impl<'a> Part<'a> {
         Ok(Record::Leg { row })
     }
 
-    // The record of this kind in a body. The kinds are matched, since the format gives each a body of its own.
+    // The record of this kind in a body. What a record says is one enum, and its name is a part of the file itself, as the
+    // project demands: so its cases are made by kind here.
     pub fn record(&self, kind: RecordKind) -> Result<Record<'a>, RecordFault>
         ensures { MatchResult result
             (λ x. Pass (body_checks kind self.now.bytes.now) × Says kind self.now.bytes.now x)
