@@ -1,5 +1,5 @@
 // A whole file: all its records in their order, and then its legs into memory.
-ghost use Rattle.std.specs.Prelude.{◌≡◌, ℕ, ◌+◌, ◌*◌, ◌<◌, ◌≤◌, List, [], length, drop, MatchResult};
+ghost use Rattle.std.specs.Prelude.{◌≡◌, ◌+◌, ◌*◌, ◌≤◌, [], length, drop, MatchResult};
 ghost use Rattle.records.specs.Reports.{chart_report};
 ghost use Rattle.records.specs.Checks.{body, legs_in, leg_in};
 ghost use Rattle.records.specs.Faults.{Owed};

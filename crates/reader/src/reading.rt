@@ -1,6 +1,6 @@
 // One record at the cursor, with all its checks in their order. The cursor then stands after the record, or before its mark
 // where it is refused.
-ghost use Rattle.std.specs.Prelude.{◌≡◌, ℕ, ◌+◌, ◌<◌, ◌≤◌, length, MatchResult};
+ghost use Rattle.std.specs.Prelude.{◌≡◌, ◌+◌, MatchResult};
 ghost use Rattle.records.specs.Checks.{Pass, byte, body, fixes_in, legs_in, chart_checks, fix_checks, leg_checks, end_checks};
 ghost use Rattle.reader.specs.Places.{rest_of, SameFile, Inside, BodiesAt, Refuses, names_at};
 

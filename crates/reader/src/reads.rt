@@ -1,5 +1,5 @@
 // How a file is read, and what an accepted file is asked.
-ghost use Rattle.std.specs.Prelude.{◌≡◌, ℕ, ◌≤◌, [], length, MatchResult};
+ghost use Rattle.std.specs.Prelude.{◌≡◌, ◌≤◌, [], length, MatchResult};
 ghost use Rattle.records.specs.Reports.{chart_report};
 ghost use Rattle.records.specs.Faults.{Owed};
 ghost use Rattle.records.specs.Verdicts.{Sole};

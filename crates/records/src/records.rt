@@ -2,7 +2,7 @@
 ghost use Rattle.std.specs.Prelude.{◌≡◌, ◌++◌, Decides, MatchResult};
 ghost use Rattle.records.specs.Format.{Sign, Named};
 ghost use Rattle.records.specs.Reports.{record_report, chart_report, Fails};
-ghost use Rattle.records.specs.Checks.{Pass, body, due_checks, chart_body, fix_body, leg_body, body_checks, fixes_in, legs_in, name_in, leg_in};
+ghost use Rattle.records.specs.Checks.{Pass, body, due_checks, chart_body, fix_body, leg_body, body_checks, fixes_in, legs_in, leg_in};
 ghost use Rattle.records.specs.Bodies.{IsBody, Says};
 
 use super::bytes::Part;
