@@ -13,6 +13,10 @@ use Rattle.reader.specs.declared.cursor.Cursor.{Cursor}
 abbrev pub rest_of : Cursor → List ℕ
 rest_of c = drop c.place c.file.now
 
+-- both cursors stand in the same file
+abbrev pub SameFile : Cursor → Cursor → Type 0
+SameFile was is = is.file ≡ was.file
+
 -- the cursor stands in the file or at its end
 abbrev pub Inside : Cursor → Type 0
 Inside c = c.place ≤ length c.file.now

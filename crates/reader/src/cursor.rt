@@ -4,8 +4,8 @@ ghost use Rattle.records.specs.Checks.{AllBytes};
 
 use records::bytes::{Part, onward};
 
-// A file, and a place in it: the number of bytes before the place. Anyone may write any place, so it is no invariant that the
-// place lies in the file.
+// A file, and a place in it: the number of bytes before the place. That the place lies in the file is required by the methods
+// that need it, and is no invariant: the type is public and its fields can be written, so an invariant would ask more of callers.
 #[derive(Clone, Copy, Debug, PartialEq, Eq)]
 pub struct Cursor<'a> {
     pub file: &'a [u8],

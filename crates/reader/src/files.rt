@@ -1,9 +1,9 @@
 // A whole file: all its records in their order, and then its legs into memory.
-ghost use Rattle.std.specs.Prelude.{◌≡◌, ℕ, ◌+◌, ◌*◌, ◌<◌, ◌≤◌, List, [], length, drop, MatchResult};
+ghost use Rattle.std.specs.Prelude.{◌≡◌, ◌+◌, ◌*◌, ◌≤◌, [], length, drop, MatchResult};
 ghost use Rattle.records.specs.Reports.{chart_report};
 ghost use Rattle.records.specs.Checks.{body, legs_in, leg_in};
 ghost use Rattle.records.specs.Faults.{Owed};
-ghost use Rattle.reader.specs.Places.{Inside, Naming, Along, Ended, Stops, StopsAlong, Filled, Checked};
+ghost use Rattle.reader.specs.Places.{SameFile, Inside, Naming, Along, Ended, Stops, StopsAlong, legs_at, Checked};
 
 use super::counts::Counts;
 use super::cursor::Cursor;
@@ -28,7 +28,7 @@ impl Cursor<'_> {
     // The names, one after the other: the places of their records.
     fn read_fixes(&mut self, fixes: u16) -> Result<ArrayVec<usize, MAX_FIXES>, ChartFault>
         requires { Naming self.old.file.now self.old.place fixes (legs_in (body self.old.file.now)) [] }
-        ensures same_file { self.new.file ≡ self.old.file }
+        ensures same_file { SameFile self.old self.new }
         ensures reads { MatchResult result
             (λ starts. Naming self.old.file.now self.new.place fixes (legs_in (body self.old.file.now)) starts.items × (length starts.items ≡ fixes))
             (λ e. Stops self.old.file.now (legs_in (body self.old.file.now)) e self.new.place) }
@@ -45,7 +45,7 @@ impl Cursor<'_> {
     // The legs, one after the other.
     fn read_legs(&mut self, counts: Counts) -> Result<(), ChartFault>
         requires { Inside self.old }
-        ensures same_file { self.new.file ≡ self.old.file }
+        ensures same_file { SameFile self.old self.new }
         ensures reads { MatchResult result
             (λ _. Along self.old.file.now self.new.place counts.fixes counts.legs self.old.place counts.legs)
             (λ e. StopsAlong self.old.file.now counts.fixes counts.legs self.old.place e self.new.place) }
@@ -59,7 +59,7 @@ impl Cursor<'_> {
     // The legs, the end record, and that nothing follows it.
     fn read_legs_to_end(&mut self, counts: Counts) -> Result<(), ChartFault>
         requires { Inside self.old }
-        ensures same_file { self.new.file ≡ self.old.file }
+        ensures same_file { SameFile self.old self.new }
         ensures reads { MatchResult result
             (λ _. Ended self.old.file.now counts.fixes counts.legs self.old.place self.new.place)
             (λ e. StopsAlong self.old.file.now counts.fixes counts.legs self.old.place e self.new.place) }
@@ -75,7 +75,7 @@ impl Cursor<'_> {
 
     // Checks all records from the beginning of the file, where there is room for so many legs.
     pub(crate) fn check_file(&mut self, room: usize) -> Result<Found, ChartFault>
-        ensures same_file { self.new.file ≡ self.old.file }
+        ensures same_file { SameFile self.old self.new }
         ensures reads { MatchResult result
             (λ f. Checked self.old.file.now room f.starts.items f.counts.fixes f.counts.legs f.base × (self.new.place ≡ length self.old.file.now))
             (λ e. Owed self.old.file.now room (chart_report e) × (self.new.place ≡ (chart_report e).place)) }
@@ -101,12 +101,12 @@ fn leg_at(file: &[u8], at: usize) -> Row
     leg_row(onward(onward(file, at), MARK_BYTES)).unwrap()
 }
 
-// Puts the legs whose records stand in the file from a place on into the first rows.
-pub(crate) fn fill(file: &[u8], base: usize, legs: u16, memory: &mut [Row])
-    requires { (base + 14 * legs ≤ length file.now) × (legs ≤ length memory.old) }
-    ensures { Filled file.now base legs memory.old memory.new }
+// Puts the legs whose records stand in the file from a place on into rows. With `zip` over `chunks_exact` in place of the index
+// nothing was known of the rows after the loop.
+pub(crate) fn fill(file: &[u8], base: usize, rows: &mut [Row])
+    requires { base + 14 * length rows.old ≤ length file.now }
+    ensures { rows.new ≡ legs_at file.now base (length rows.old) }
 {
-    let rows = &mut memory[..legs as usize];
     for (k, row) in rows.iter_mut().enumerate() {
         *row = leg_at(file, base + (MARK_BYTES + LEG_BODY) * k);
     }

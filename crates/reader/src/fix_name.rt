@@ -1,5 +1,5 @@
 // The name of a fix, and the refusal where there is no such fix.
-ghost use Rattle.std.specs.Prelude.{◌≡◌, Some, codes};
+ghost use Rattle.std.specs.Prelude.{Some};
 ghost use Rattle.reader.specs.Readings.{name_number, name_words};
 
 use chart::refusals::Refusal;

@@ -1,5 +1,5 @@
 // Names of fixes, where their records stand in the file.
-ghost use Rattle.std.specs.Prelude.{◌≡◌, ℕ, ◌<◌, ◌≤◌, length, drop, Decides};
+ghost use Rattle.std.specs.Prelude.{◌≡◌, drop, Decides};
 ghost use Rattle.records.specs.Format.{Fresh};
 ghost use Rattle.records.specs.Checks.{name_in, body};
 ghost use Rattle.reader.specs.Places.{FixBodyAt, BodiesAt, names_at};

@@ -1,5 +1,5 @@
 // A reader of one chart file.
-ghost use Rattle.std.specs.Prelude.{◌≡◌, ℕ, ◌≤◌};
+ghost use Rattle.std.specs.Prelude.{◌≤◌};
 ghost use Rattle.chart.specs.Limits.{max_fixes};
 ghost use Rattle.arrayvec.specs.ArrayVec.{array_vec_len};
 ghost use Rattle.reader.specs.Places.{BodiesAt, Indexed};

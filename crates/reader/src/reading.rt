@@ -1,8 +1,8 @@
 // One record at the cursor, with all its checks in their order. The cursor then stands after the record, or before its mark
 // where it is refused.
-ghost use Rattle.std.specs.Prelude.{◌≡◌, ℕ, ◌+◌, ◌<◌, ◌≤◌, length, MatchResult};
+ghost use Rattle.std.specs.Prelude.{◌≡◌, ◌+◌, MatchResult};
 ghost use Rattle.records.specs.Checks.{Pass, byte, body, fixes_in, legs_in, chart_checks, fix_checks, leg_checks, end_checks};
-ghost use Rattle.reader.specs.Places.{rest_of, Inside, BodiesAt, Refuses, names_at};
+ghost use Rattle.reader.specs.Places.{rest_of, SameFile, Inside, BodiesAt, Refuses, names_at};
 
 use super::counts::Counts;
 use super::cursor::Cursor;
@@ -17,7 +17,7 @@ impl Cursor<'_> {
     // The chart's record: the numbers of fixes and of legs, where there is room for so many legs.
     pub(crate) fn read_chart(&mut self, room: usize) -> Result<Counts, ChartFault>
         requires { Inside self.old }
-        ensures same_file { self.new.file ≡ self.old.file }
+        ensures same_file { SameFile self.old self.new }
         ensures reads { MatchResult result
             (λ n. Pass (chart_checks room (rest_of self.old))
             × (n.fixes ≡ fixes_in (body (rest_of self.old)))
@@ -27,8 +27,7 @@ impl Cursor<'_> {
     {
         let rest = self.rest();
         let mut guard = Guard::new(&mut self.place);
-        let body = rest.due(RecordKind::Chart)?;
-        let Record::Chart { fixes, legs } = body.record(RecordKind::Chart)? else {
+        let Record::Chart { fixes, legs } = rest.due_record(RecordKind::Chart)? else {
             unreachable!();
         };
         if legs as usize > room {
@@ -42,7 +41,7 @@ impl Cursor<'_> {
     pub(crate) fn read_fix(&mut self, starts: &[usize]) -> Result<(), ChartFault>
         requires inside { Inside self.old }
         requires stand { BodiesAt self.old.file.now starts.now }
-        ensures same_file { self.new.file ≡ self.old.file }
+        ensures same_file { SameFile self.old self.new }
         ensures reads { MatchResult result
             (λ _. Pass (fix_checks (names_at self.old.file.now starts.now) (rest_of self.old))
             × (self.new.place ≡ self.old.place + (3 + byte (body (rest_of self.old)) 0)))
@@ -50,8 +49,7 @@ impl Cursor<'_> {
     {
         let rest = self.rest();
         let mut guard = Guard::new(&mut self.place);
-        let body = rest.due(RecordKind::Fix)?;
-        let Record::Fix { name } = body.record(RecordKind::Fix)? else {
+        let Record::Fix { name } = rest.due_record(RecordKind::Fix)? else {
             unreachable!();
         };
         if !is_fresh(self.file, starts, name) {
@@ -64,7 +62,7 @@ impl Cursor<'_> {
     // A leg's record, in a chart of `n` fixes.
     pub(crate) fn read_leg(&mut self, n: u16) -> Result<(), ChartFault>
         requires { Inside self.old }
-        ensures same_file { self.new.file ≡ self.old.file }
+        ensures same_file { SameFile self.old self.new }
         ensures reads { MatchResult result
             (λ _. Pass (leg_checks n (rest_of self.old))
             × (self.new.place ≡ self.old.place + 14))
@@ -72,8 +70,7 @@ impl Cursor<'_> {
     {
         let rest = self.rest();
         let mut guard = Guard::new(&mut self.place);
-        let body = rest.due(RecordKind::Leg)?;
-        let Record::Leg { row } = body.record(RecordKind::Leg)? else {
+        let Record::Leg { row } = rest.due_record(RecordKind::Leg)? else {
             unreachable!();
         };
         if !row.is_placed(n) {
@@ -86,7 +83,7 @@ impl Cursor<'_> {
     // The end record.
     pub(crate) fn read_end(&mut self) -> Result<(), ChartFault>
         requires { Inside self.old }
-        ensures same_file { self.new.file ≡ self.old.file }
+        ensures same_file { SameFile self.old self.new }
         ensures reads { MatchResult result
             (λ _. Pass (end_checks (rest_of self.old))
             × (self.new.place ≡ self.old.place + 2))

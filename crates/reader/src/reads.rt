@@ -1,5 +1,5 @@
 // How a file is read, and what an accepted file is asked.
-ghost use Rattle.std.specs.Prelude.{◌≡◌, ℕ, ◌≤◌, [], length, MatchResult};
+ghost use Rattle.std.specs.Prelude.{◌≡◌, ◌≤◌, [], length, MatchResult};
 ghost use Rattle.records.specs.Reports.{chart_report};
 ghost use Rattle.records.specs.Faults.{Owed};
 ghost use Rattle.records.specs.Verdicts.{Sole};
@@ -41,7 +41,8 @@ impl<'a> Reader<'a> {
         ensures one_verdict { Sole self.old.cursor.file.now (length memory.old) }
     {
         let found = self.cursor.check_file(memory.len())?;
-        fill(self.cursor.file, found.base, found.counts.legs, memory);
+        let rows = &mut memory[..found.counts.legs as usize];
+        fill(self.cursor.file, found.base, rows);
         self.starts = found.starts;
         Ok(found.counts)
     }
@@ -53,9 +54,7 @@ impl<'a> Reader<'a> {
             (λ name. Names self.now.cursor.file.now (names_of self.now) fix name)
             (λ _. length (names_of self.now) ≤ fix) }
     {
-        let Some(start) = self.starts.get(fix as usize) else {
-            return Err(NoSuchFix);
-        };
+        let start = self.starts.get(fix as usize).ok_or(NoSuchFix)?;
         Ok(FixName {
             text: name_at(self.cursor.file, *start),
             place: start + MARK_BYTES + 1,

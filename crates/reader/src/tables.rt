@@ -1,5 +1,5 @@
 // A table over the legs of an accepted file.
-ghost use Rattle.std.specs.Prelude.{◌≡◌, ℕ, true, map, length, is_ok, MatchResult};
+ghost use Rattle.std.specs.Prelude.{◌≡◌, true, map, length, is_ok, MatchResult};
 ghost use Rattle.chart.specs.Rows.{plain, TableOwes};
 ghost use Rattle.chart.specs.Tables.{table_legs};
 ghost use Rattle.records.specs.Format.{Means};

@@ -1,7 +1,5 @@
 // The bytes of a record: where it begins, which kind its mark is, and whether its body is complete.
-ghost use Rattle.std.specs.Prelude.{◌≡◌, ℕ, ◌<◌, ◌≤◌, [], ◌∷◌, length, take, drop, MatchOption, MatchResult, ◌≢◌};
-ghost use Rattle.records.specs.declared.kinds.RecordKind.{RecordKind};
-ghost use Rattle.records.specs.Format.{mark};
+ghost use Rattle.std.specs.Prelude.{◌≡◌, ◌<◌, ◌≤◌, length, take, drop, MatchResult};
 ghost use Rattle.records.specs.Reports.{bytes_report, Fails};
 ghost use Rattle.records.specs.Checks.{Marked, mark_checks};
 ghost use Rattle.records.specs.Bodies.{IsBody};
@@ -14,19 +12,6 @@ pub fn onward(file: &[u8], at: usize) -> &[u8]
     ensures { result.now ≡ drop at file.now }
 {
     file.get(at..).unwrap_or(&[])
-}
-
-// The kind that two bytes mark.
-fn decide(a: u8, b: u8) -> Option<RecordKind>
-    ensures { MatchOption result (((k : RecordKind) → mark k ≢ a ∷ b ∷ [])) (λ k. mark k ≡ a ∷ b ∷ []) }
-{
-    match (a, b) {
-        (b'C', b'H') => Some(RecordKind::Chart),
-        (b'F', b'X') => Some(RecordKind::Fix),
-        (b'L', b'G') => Some(RecordKind::Leg),
-        (b'E', b'N') => Some(RecordKind::End),
-        _ => None,
-    }
 }
 
 // Bytes of a record with all that follows it, and the place of the record's mark in the file.
@@ -47,10 +32,8 @@ impl<'a> Part<'a> {
         let [a, b, body @ ..] = bytes else {
             return Err(BytesFault::Short { place });
         };
-        match decide(*a, *b) {
-            Some(kind) => Ok((kind, Part { bytes: body, place })),
-            None => Err(BytesFault::Unknown { place }),
-        }
+        let kind = RecordKind::try_from([*a, *b]).map_err(|_| BytesFault::Unknown { place })?;
+        Ok((kind, Part { bytes: body, place }))
     }
 
     // The first bytes of a body, as many as given, or the fault that there are fewer.

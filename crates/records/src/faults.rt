@@ -39,6 +39,19 @@ pub struct Report {
     pub place: usize,
 }
 
+impl Report {
+    // That a layer found the fault of this number at this place.
+    fn at(number: u8, layer: Layer, place: usize) -> Report
+        ensures { result ≡ record { number = number; layer = layer; place = place } }
+    {
+        Report {
+            number,
+            layer,
+            place,
+        }
+    }
+}
+
 // A fault of any layer.
 pub trait Fault: Error {
     ghost report_of: { Self → Report };
@@ -94,11 +107,7 @@ impl Fault for BytesFault {
             BytesFault::Short { place } => (1, place),
             BytesFault::Unknown { place } => (2, place),
         };
-        Report {
-            number,
-            layer: Layer::Bytes,
-            place,
-        }
+        Report::at(number, Layer::Bytes, place)
     }
 }
 
@@ -125,11 +134,7 @@ impl Fault for RecordFault {
             RecordFault::BadName { place } => (5, place),
             RecordFault::BadTimes { place } => (8, place),
         };
-        Report {
-            number,
-            layer: Layer::Record,
-            place,
-        }
+        Report::at(number, Layer::Record, place)
     }
 }
 
@@ -160,11 +165,7 @@ impl Fault for ChartFault {
             ChartFault::BytesAfter { place } => (9, place),
             ChartFault::NoRoom { place } => (10, place),
         };
-        Report {
-            number,
-            layer: Layer::Chart,
-            place,
-        }
+        Report::at(number, Layer::Chart, place)
     }
 }
 

@@ -1,8 +1,8 @@
 // The bodies of records, each read into a record whose name, where it has one, is that part of the file itself.
-ghost use Rattle.std.specs.Prelude.{◌≡◌, ℕ, ◌+◌, ◌<◌, ◌≤◌, length, Decides, MatchResult};
+ghost use Rattle.std.specs.Prelude.{◌≡◌, ◌++◌, Decides, MatchResult};
 ghost use Rattle.records.specs.Format.{Sign, Named};
 ghost use Rattle.records.specs.Reports.{record_report, chart_report, Fails};
-ghost use Rattle.records.specs.Checks.{Pass, Marked, mark_checks, due_checks, chart_body, fix_body, leg_body, body_checks, fixes_in, legs_in, name_in, leg_in};
+ghost use Rattle.records.specs.Checks.{Pass, body, due_checks, chart_body, fix_body, leg_body, body_checks, fixes_in, legs_in, leg_in};
 ghost use Rattle.records.specs.Bodies.{IsBody, Says};
 
 use super::bytes::Part;
@@ -43,9 +43,12 @@ impl<'a> Part<'a> {
             (λ x. Pass (chart_body self.now.bytes.now) × (x ≡ Record.Chart (fixes_in self.now.bytes.now) (legs_in self.now.bytes.now)))
             (λ e. Fails (chart_body self.now.bytes.now) self.now.place (record_report e)) }
     {
-        let body = self.complete(CHART_BODY)?;
-        let fixes = u16::from(body[0]);
-        let legs = u16::from_be_bytes([body[1], body[2]]);
+        let (&[fixes, high, low], _) = self
+            .bytes
+            .split_first_chunk::<CHART_BODY>()
+            .ok_or(BytesFault::Short { place: self.place })?;
+        let fixes = u16::from(fixes);
+        let legs = u16::from_be_bytes([high, low]);
         if !are_counts(fixes, legs as usize) {
             return Err(RecordFault::BadCounts { place: self.place });
         }
@@ -79,7 +82,8 @@ impl<'a> Part<'a> {
         Ok(Record::Leg { row })
     }
 
-    // The record of this kind in a body. The kinds are matched, since the format gives each a body of its own.
+    // The record of this kind in a body. What a record says is one enum, and its name is a part of the file itself, as the
+    // project demands: so its cases are made by kind here.
     pub fn record(&self, kind: RecordKind) -> Result<Record<'a>, RecordFault>
         ensures { MatchResult result
             (λ x. Pass (body_checks kind self.now.bytes.now) × Says kind self.now.bytes.now x)
@@ -93,25 +97,25 @@ impl<'a> Part<'a> {
         }
     }
 
-    // The kind of the record and its body, with a fault of the bytes as one of the record.
-    fn marked(&self) -> Result<(RecordKind, Part<'a>), RecordFault>
-        ensures { MatchResult result
-            (λ k. (2 ≤ length self.now.bytes.now) × Marked k.0 self.now.bytes.now × IsBody self.now k.1)
-            (λ e. Fails (mark_checks self.now.bytes.now) self.now.place (record_report e)) }
-    {
-        Ok(self.opened()?)
-    }
-
     // The body of the record whose mark these bytes begin with, where it is of the kind that is due.
     pub fn due(&self, kind: RecordKind) -> Result<Part<'a>, ChartFault>
         ensures { MatchResult result
             (λ b. Pass (due_checks kind self.now.bytes.now) × IsBody self.now b)
             (λ e. Fails (due_checks kind self.now.bytes.now) self.now.place (chart_report e)) }
     {
-        let (found, body) = self.marked()?;
+        let (found, body) = self.opened().map_err(RecordFault::from)?;
         if found != kind {
             return Err(ChartFault::OutOfPlace { place: self.place });
         }
         Ok(body)
+    }
+
+    // The record whose mark these bytes begin with, where it is of the kind that is due.
+    pub fn due_record(&self, kind: RecordKind) -> Result<Record<'a>, ChartFault>
+        ensures { MatchResult result
+            (λ x. Pass (due_checks kind self.now.bytes.now ++ body_checks kind (body self.now.bytes.now)) × Says kind (body self.now.bytes.now) x)
+            (λ e. Fails (due_checks kind self.now.bytes.now ++ body_checks kind (body self.now.bytes.now)) self.now.place (chart_report e)) }
+    {
+        Ok(self.due(kind)?.record(kind)?)
     }
 }

@@ -1,5 +1,4 @@
-use Rattle.std.proofs.Common.{◌≡◌, ◌++◌, drop, set, ap, ◌∙◌, arith}
-use Rattle.std.proofs.lemmas.List.{length-take-le}
+use Rattle.std.proofs.Common.{◌≡◌, length, set, ap, ◌∙◌, arith}
 use Rattle.reader.specs.Places.{legs_at}
 use Rattle.reader.proofs.Fillings.{filled_more, filled_all}
 use Rattle.reader.proofs.files.fill.Goals as goal
@@ -9,7 +8,5 @@ loop-k-preserved c = filled_more c.args.file.now c.args.base c.loop-k.k _ c.loop
 
 pub returns : goal.returns
 returns c =
-    let long = length-take-le c.args.legs c.args.memory.now c.requires.1 in
-    let all : c.loop-k.k ≡ c.args.legs = omega arith in
-    ap (λ rows. rows ++ drop c.args.legs c.args.memory.now)
-    (filled_all c.args.file.now c.args.base c.loop-k.k _ c.loop-k.rows c.loop-k.invariant c.loop-k-test.false ∙ ap (legs_at c.args.file.now c.args.base) all)
+    let all : c.loop-k.k ≡ length c.args.rows.now = omega arith in
+    filled_all c.args.file.now c.args.base c.loop-k.k _ c.loop-k.rows c.loop-k.invariant c.loop-k-test.false ∙ ap (legs_at c.args.file.now c.args.base) all

@@ -1,4 +1,4 @@
-use Rattle.std.proofs.Common.{◌≡◌, get_or, drop, sym, ap, ◌∙◌, arith}
+use Rattle.std.proofs.Common.{◌≡◌, Some, get_or, drop, sym, ap, ◌∙◌, arith}
 use Rattle.records.specs.Checks.{body, name_in}
 use Rattle.reader.specs.Readings.{names_of}
 use Rattle.reader.proofs.NamesAt.{names_length, name_nth, name_part}
@@ -9,11 +9,13 @@ unfolding names_of
 returns c =
     let r = c.args.self.now in
     let file = r.cursor.file.now in
-    let found = rw c.deref.ensures.0 at c.in-Some.ensures.lookup in
-    let start : c.in-Some.start.now ≡ get_or r.starts.items c.args.fix 0 = found.4 (omega arith) 0 in
+    let start = c.in_ok-start.start in
+    let some : c.get.result ≡ Some start = grind arith in
+    let found = rw (c.deref.ensures.0, some) at c.get.ensures.lookup in
+    let at_fix : start.now ≡ get_or r.starts.items c.args.fix 0 = found.4 (omega arith) 0 in
     record {
       there = omega (arith, names_length file r.starts.items, found.3.0);
-      text = c.name_at.ensures ∙ ap (λ p. name_in (body (drop p file))) start ∙ sym (name_nth file r.starts.items c.args.fix found.3.0);
+      text = c.name_at.ensures ∙ ap (λ p. name_in (body (drop p file))) at_fix ∙ sym (name_nth file r.starts.items c.args.fix found.3.0);
       place = omega (arith, r.indexed c.args.fix found.3.0);
-      part = rw c.name_at.ensures (name_part file c.in-Some.start.now);
+      part = rw c.name_at.ensures (name_part file start.now);
     }

@@ -1,4 +1,5 @@
 use Rattle.std.proofs.Common.{◌++◌, drop, sym, refl, ap, ◌∙◌, arith}
+use Rattle.std.proofs.lemmas.List.{length-take-le}
 use Rattle.reader.specs.Readings.{names_of}
 use Rattle.reader.specs.Places.{legs_at}
 use Rattle.reader.proofs.Carrying.{carried}
@@ -20,6 +21,7 @@ returns-clause-reads_the_chart_or_tells_the_fault c =
     let legs = legs_at file found.base found.counts.legs in
     let count = legs_length file found.base found.counts.legs in
     let names = names_length c.check_file.new.self.file.now found.starts.items in
+    let many = length-take-le found.counts.legs c.args.memory.now h.0.fits in
     let filled = rw c.check_file.ensures.same_file at c.fill.ensures in
     record {
       legs = legs;
@@ -27,6 +29,6 @@ returns-clause-reads_the_chart_or_tells_the_fault c =
       fixes = omega (arith, h.0.whole);
       count = omega (arith, count);
       room = omega (arith, count, h.0.fits);
-      filled = filled ∙ ap (λ k. legs ++ drop k c.args.memory.now) (sym count);
+      filled = ap (λ rows. rows ++ drop found.counts.legs c.args.memory.now) (filled ∙ ap (legs_at file found.base) many) ∙ ap (λ k. legs ++ drop k c.args.memory.now) (sym count);
       place = h.1;
     }
