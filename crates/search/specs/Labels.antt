@@ -1,5 +1,5 @@
 -- What the labels and marks of a search say of the fixes, and which fix is picked.
-use Rattle.std.specs.Prelude.{◌≡◌, ℕ, ◌<◌, Bool, true, false, List, Some, None, count_by, Option, ◌≢◌, slice_index_or}
+use Rattle.std.specs.Prelude.{◌≡◌, ℕ, ◌<◌, Bool, true, false, List, Some, None, count_by, Option, ◌⊎◌, ◌≢◌, slice_index_or}
 use Rattle.chart.specs.Kinds.{Rule}
 use Rattle.search.specs.declared.mark.Mark.{Mark}
 use Rattle.search.specs.declared.mark.Mark.TheVariants.{Blank, Reached, Settled}
@@ -26,6 +26,10 @@ is_done Settled = true
 -- how many fixes are settled
 abbrev pub done : List Mark → ℕ
 done mark = count_by is_done mark
+
+-- w is one of the fixes u and v, and as good as the other
+abbrev pub BetterOf : {T : Type 0} → Rule T → List T → ℕ → ℕ → ℕ → Type 0
+BetterOf rule label u v w = ((w ≡ v) × rule.order (label_at rule label v) (label_at rule label u)) ⊎ ((w ≡ u) × rule.order (label_at rule label u) (label_at rule label v))
 
 -- of the fixes below n, u is reached, and as good as each that is reached
 pub record Pick {T : Type 0} (rule : Rule T) (label : List T) (mark : List Mark) (n u : ℕ) : Type 0 where

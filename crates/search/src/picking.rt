@@ -1,5 +1,7 @@
 // Which fix is settled next: the best of those that are reached and not settled.
-ghost use Rattle.search.specs.Labels.{Picked};
+ghost use Rattle.std.specs.Prelude.{◌<◌};
+ghost use Rattle.chart.specs.Limits.{max_fixes};
+ghost use Rattle.search.specs.Labels.{BetterOf, Picked};
 ghost use Rattle.search.specs.Snapshots.{fixes_of};
 
 use super::mark::Mark;
@@ -7,20 +9,23 @@ use super::state::Search;
 use chart::kinds::Kind;
 
 impl<'a, K: Kind> Search<'a, K> {
+    // The better of two fixes by their labels, and the first where neither is.
+    fn better_of(&self, u: usize, v: usize) -> usize
+        requires { (u < max_fixes) × (v < max_fixes) }
+        ensures { BetterOf (K.rule self.now.kind.now) self.now.label.now u v result }
+    {
+        if self.kind.better(self.label[v], self.label[u]) {
+            return v;
+        }
+        u
+    }
+
     // The best of the fixes that are reached.
     pub(crate) fn pick(&self) -> Option<usize>
         ensures { Picked (K.rule self.now.kind.now) self.now.label.now self.now.mark.now (fixes_of self.now.snapshot.now) result }
     {
-        let fixes = self.snapshot.fixes as usize;
-        let mut best = None;
-        for (v, mark) in self.mark[..fixes].iter().enumerate() {
-            if let Mark::Reached = mark {
-                best = match best {
-                    Some(u) if !self.kind.better(self.label[v], self.label[u]) => Some(u),
-                    _ => Some(v),
-                };
-            }
-        }
-        best
+        (0..self.snapshot.fixes as usize)
+            .filter(|v| matches!(self.mark[*v], Mark::Reached))
+            .reduce(|u, v| self.better_of(u, v))
     }
 }

@@ -9,8 +9,8 @@ ghost use Rattle.search.specs.Index.{taken, nexts, Chained};
 use super::linked::Linked;
 use chart::limits::{MAX_FIXES, MAX_LEGS};
 
-// The first `count` of `legs` are the chart's: memory is fixed, so the array has room for the most legs. And `first`
-// has the first leg that leaves a fix.
+// The first `count` of `legs` are the chart's, and the array has room for the most legs. An `ArrayVec` would be made of
+// such an array too, since there is no default leg. And `first` has the first leg that leaves a fix.
 #[derive(Drop)]
 pub struct Snapshot {
     pub(crate) fixes: u16,
