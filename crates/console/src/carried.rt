@@ -33,9 +33,8 @@ pub struct CarriedFiles;
 
 impl Files for CarriedFiles {
     fn fetch(&self, rt: &HostRuntime, path: &str) -> Result<Option<Vec<u8>>, AllocError> {
-        match carried(path) {
-            Some(bytes) => Ok(Some(Vec::from_slice(rt.alloc(), bytes)?)),
-            None => Ok(None),
-        }
+        carried(path)
+            .map(|bytes| Vec::from_slice(rt.alloc(), bytes))
+            .transpose()
     }
 }

@@ -15,7 +15,7 @@ pub fn parse(line: &str) -> Option<Command<'_>> {
     let mut words = line.split_whitespace();
     let command = words.next()?;
     let first = words.next();
-    let word = if words.next().is_none() { first } else { None };
+    let word = first.filter(|_| words.next().is_none());
     match command {
         "chart" => Some(word.map_or(Command::Malformed { command: "chart" }, |path| {
             Command::Chart { path }

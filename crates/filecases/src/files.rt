@@ -48,13 +48,13 @@ fn name_of(heap: Global, fix: u16) -> Result<Vec<u8>, AllocError> {
     Ok(name)
 }
 
-fn leg_bytes(row: &Row) -> [u8; 14] {
-    let [_, from] = row.from.to_be_bytes();
-    let [_, to] = row.to.to_be_bytes();
-    let [l1, l2, l3, l4] = row.low.to_be_bytes();
-    let [h1, h2, h3, h4] = row.high.to_be_bytes();
-    let [t1, t2] = row.top.to_be_bytes();
-    [b'L', b'G', from, to, l1, l2, l3, l4, h1, h2, h3, h4, t1, t2]
+// The record of a leg.
+fn leg_bytes(heap: Global, row: &Row) -> Result<Vec<u8>, AllocError> {
+    let mut bytes = vec![in heap; b'L', b'G', (row.from & 0xff) as u8, (row.to & 0xff) as u8]?;
+    bytes.extend_from_slice(&row.low.to_be_bytes())?;
+    bytes.extend_from_slice(&row.high.to_be_bytes())?;
+    bytes.extend_from_slice(&row.top.to_be_bytes())?;
+    Ok(bytes)
 }
 
 // The sound file of a shape.
@@ -74,7 +74,7 @@ pub fn file_of(heap: Global, shape: Counts) -> Result<File, AllocError> {
     }
     for leg in 0..shape.legs {
         let row = row_of(leg, shape.fixes);
-        file.put(&leg_bytes(&row))?;
+        file.put(&leg_bytes(heap, &row)?)?;
         file.rows.push(row)?;
     }
     file.put(b"EN")?;

@@ -66,16 +66,22 @@ fn route_agrees<C: Chart>(chart: &C, ends: Ends, routes: &[&Chain], memory: &mut
     }
 }
 
+// Whether a test holds of so many marked places.
+fn holds_on<F: FnOnce(&mut [u16]) -> bool>(count: usize, test: F) -> bool
+    requires { F.IsAlwaysCallable test }
+{
+    let mut memory = [MARK; PLACES];
+    memory.get_mut(..count).is_some_and(test)
+}
+
 // Whether the route call agrees with the listing on too few, just enough and more than enough places.
 fn routes_agree<C: Chart>(chart: &C, ends: Ends, routes: &[&Chain]) -> bool {
     let enough = (chart.n() as usize).saturating_sub(1).min(PLACES);
-    let too_few = enough.saturating_sub(1);
-    let mut short = [MARK; PLACES];
-    let mut just = [MARK; PLACES];
-    let mut more = [MARK; PLACES];
-    short_is_refused(chart, ends, &mut short[0..too_few])
-        && route_agrees(chart, ends, routes, &mut just[0..enough])
-        && route_agrees(chart, ends, routes, &mut more)
+    holds_on(
+        enough.saturating_sub(1),
+        |places| short_is_refused(chart, ends, places),
+    ) && holds_on(enough, |places| route_agrees(chart, ends, routes, places))
+        && holds_on(PLACES, |places| route_agrees(chart, ends, routes, places))
 }
 
 pub fn show(rt: &HostRuntime, case: &Case) -> anyhow::Result<()> {

@@ -22,8 +22,8 @@ pub fn is_marked(marks: &[bool], k: u16) -> bool
 
 // The marks of such a choice.
 #[derive(Clone, Copy)]
-struct Marked<'a> {
-    marks: &'a [bool],
+pub struct Marked<'a> {
+    pub marks: &'a [bool],
 }
 
 impl<'a> Choice for Marked<'a> {

@@ -1,4 +1,4 @@
-// The program: thin, over the proved crates.
+// The program. All that it does stands in the library `console`.
 #![tactic(auto)]
 
 use console::run::run;
