@@ -17,7 +17,7 @@ const REVERSED: &[u8] =
     b"CH\x02\x00\x01FX\x02AAFX\x02BBLG\x00\x01\x00\x00\x01\xf4\x00\x00\x01\x90\x01\x86EN";
 
 // The carried file of a name.
-fn carried(path: &str) -> Option<&'static [u8]> {
+pub fn carried(path: &str) -> Option<&'static [u8]> {
     match path {
         "four-fixes.chart" => Some(FOUR_FIXES),
         "cut.chart" => Some(CUT),
