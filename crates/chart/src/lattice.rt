@@ -6,7 +6,8 @@ ghost use Rattle.chart.specs.Grid.{interval_at};
 use super::limits::MAX_STEPS;
 use super::step::Step;
 
-// The first `columns` − 1 of the steps are in use. They stand in an array of the most: a lattice is a plain value, with no heap.
+// The first `columns` − 1 of the steps are in use. They stand in an array of the most: a lattice is
+// `Copy`, which a list with a length of its own is not.
 #[derive(Clone, Copy)]
 pub struct Lattice {
     pub rows: u16,

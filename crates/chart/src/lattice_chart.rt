@@ -96,6 +96,7 @@ impl Chart for Lattice {
         (self.columns - 1) * (3 * self.rows - 2)
     }
 
+    // The number of legs is written out once more, since by a call of `m` the answers that go by this bound do not close.
     fn leg(&self, k: u16) -> Option<Leg> {
         let rows = self.rows;
         let step_legs = 3 * rows - 2;

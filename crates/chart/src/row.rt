@@ -7,7 +7,8 @@ pub enum Standing {
     Closed,
 }
 
-// One row of leg memory: any numbers, and a standing.
+// One row of leg memory: any numbers, and a standing. Its fixes and its times are fields of their own, and no `Ends` and no
+// `Interval`, so that what is said of rows reads `row.low`, and not `row.times.low`.
 #[derive(Clone, Copy, Debug, PartialEq, Eq)]
 pub struct Row {
     pub from: u16,

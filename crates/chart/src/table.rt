@@ -5,8 +5,8 @@ ghost use Rattle.chart.specs.Rows.{row_at};
 
 use super::row::Row;
 
-// The first `count` rows are its legs. The number stands beside the rows since a table keeps rows that it has not taken: until
-// then it has none.
+// The first `count` rows are its legs. The number stands beside the rows since a table keeps rows that it has not taken:
+// with the rows alone there would be no table over rows that has none of them.
 #[derive(Clone, Copy)]
 pub struct Table<'a> {
     pub fixes: u16,

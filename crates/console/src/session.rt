@@ -80,7 +80,7 @@ pub fn blank_rows(heap: Global) -> Result<Vec<Row>, AllocError> {
     vec![in heap; blank; MAX_LEGS]
 }
 
-// A reader that has read the file, if it accepts it.
+// A reader over an accepted file, once it has read it.
 fn reader_of(heap: Global, file: &[u8]) -> Result<Reader<'_>, AllocError> {
     let mut rows = blank_rows(heap)?;
     let mut reader = Reader::new(file);

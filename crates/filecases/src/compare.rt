@@ -48,11 +48,12 @@ fn has_names(reader: &Reader<'_>, fixes: u16, file: &File) -> bool {
 
 // Whether a table takes the legs.
 fn has_table(reader: &Reader<'_>, memory: &[Row], shape: Counts) -> bool {
-    let Some(rows) = memory.get(0..shape.legs as usize) else {
-        return false;
-    };
-    let mut table = Table::new(rows);
-    reader.take_legs(&mut table).is_ok() && table.fixes == shape.fixes && table.count == shape.legs
+    memory.get(0..shape.legs as usize).is_some_and(|rows| {
+        let mut table = Table::new(rows);
+        reader.take_legs(&mut table).is_ok()
+            && table.fixes == shape.fixes
+            && table.count == shape.legs
+    })
 }
 
 // Whether the reader answers as the case expects, and leaves what it should.

@@ -1,4 +1,5 @@
-// What a reader is to say of a file.
+// What a reader is to say of a file. The numbers and layers are written out here, since the reader that is tested goes by the
+// faults of `records`.
 use records::faults::{Layer, Report};
 use std::fmt;
 

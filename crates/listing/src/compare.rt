@@ -27,7 +27,7 @@ fn count_differing<F: Fn(&Chain) -> bool>(chains: &[Chain], agrees: F) -> usize
     chains.iter().filter(|chain| !agrees(*chain)).count()
 }
 
-// Whether the regret call answers of a chain as the listing does.
+// Whether the regret call answers of a chain as the listing does. Here and below the number of a refusal itself is tested.
 fn regret_agrees<C: Chart>(chart: &C, ends: Ends, routes: &[&Chain], chain: &Chain) -> bool {
     match regret(chart, ends, &chain.legs) {
         Ok(x) => chain.is_route_to(ends.to) && x == listed_regret(chart, routes, chain),
@@ -44,7 +44,7 @@ fn floor_agrees<C: Chart>(chart: &C, ends: Ends, routes: &[&Chain], chain: &Chai
     }
 }
 
-// Whether the route call is refused for want of places, and leaves these as they were. The number itself is tested here and below.
+// Whether the route call is refused for want of places, and leaves these as they were.
 fn short_is_refused<C: Chart>(chart: &C, ends: Ends, memory: &mut [u16]) -> bool {
     least_regret(chart, ends, memory).is_err_and(|refusal| refusal.number() == 15)
         && are_marked(memory)

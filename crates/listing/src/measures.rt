@@ -1,4 +1,5 @@
-// Regret, floor and the route of least regret by their definitions, over the listing.
+// Regret, floor and the route of least regret by their definitions, over the listing. A chart, two fixes and the routes between them
+// are parameters of their own: with a struct of the three, the function that makes it is not proved, since it holds references.
 use super::chains::Chain;
 use chart::charts::Chart;
 use chart::leg::Leg;

@@ -102,7 +102,7 @@ fn leg_at(file: &[u8], at: usize) -> Row
 }
 
 // Puts the legs whose records stand in the file from a place on into rows. With `zip` over `chunks_exact` in place of the index
-// nothing was known of the rows after the loop.
+// nothing is known of the rows after the loop.
 pub(crate) fn fill(file: &[u8], base: usize, rows: &mut [Row])
     requires { base + 14 * length rows.old ≤ length file.now }
     ensures { rows.new ≡ legs_at file.now base (length rows.old) }

@@ -1,7 +1,8 @@
-// A guard over the cursor's place: it puts the place back at every way out, unless the record was accepted.
+// A guard over the cursor's place: it puts the place back at every way out, unless the record was accepted. It is a rule of the
+// project that a guard does so.
 ghost use Rattle.std.specs.Prelude.{◌≡◌, Some, None, unwrap_or};
 
-// With `&mut Cursor<'_>` in place of `&mut usize` nothing was proved of the cursor after the drop, since its type names a lifetime.
+// With `&mut Cursor<'_>` in place of `&mut usize` nothing is proved of the cursor after the drop, since its type names a lifetime.
 pub(crate) struct Guard<'r> {
     place: &'r mut usize,
     // The place to go back to, until the record is accepted.

@@ -17,7 +17,7 @@ pub(crate) fn name_at(file: &[u8], at: usize) -> &[u8]
     &body[1..1 + len]
 }
 
-// Whether the name is none of those whose records stand at these places. With `all` in place of the loop it was not proved that
+// Whether the name is none of those whose records stand at these places. With `all` in place of the loop it is not proved that
 // its closure may be called, since `name_at` requires that a record stands at the place.
 pub(crate) fn is_fresh(file: &[u8], starts: &[usize], name: &[u8]) -> bool
     requires { BodiesAt file.now starts.now }

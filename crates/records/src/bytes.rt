@@ -29,6 +29,7 @@ impl<'a> Part<'a> {
             (λ e. Fails (mark_checks self.now.bytes.now) self.now.place (bytes_report e)) }
     {
         let Part { bytes, place } = *self;
+        // It is a rule of the project that a slice pattern takes the mark apart.
         let [a, b, body @ ..] = bytes else {
             return Err(BytesFault::Short { place });
         };

@@ -1,5 +1,5 @@
-// What is wrong with a file that is no chart's: a fault of its bytes, which travels whole inside a fault of a record,
-// and that inside a fault of the chart. Each holds its place: that of the record's mark, or of the first byte after the end record.
+// What is wrong with a file that is no chart's: a fault of its bytes, which a fault of a record holds whole, as a fault of
+// the chart holds that. Each holds its place: that of the record's mark, or of the first byte after the end record.
 ghost use Rattle.std.specs.Prelude.{◌≡◌, Some};
 ghost use Rattle.records.specs.declared.faults.Report.{Report};
 ghost use Rattle.records.specs.declared.faults.RecordFault.TheVariants.{Bytes};

@@ -13,7 +13,7 @@ use super::sizes::{CHART_BODY, MAX_NAME, MIN_NAME};
 use chart::checks::are_counts;
 use chart::row::Row;
 
-// What the body of a record says.
+// What the body of a record says. The counts of a chart are two fields, since `Counts` is the reader's, which is above.
 #[derive(Clone, Copy, Debug, PartialEq, Eq)]
 pub enum Record<'a> {
     Chart { fixes: u16, legs: u16 },
@@ -82,8 +82,8 @@ impl<'a> Part<'a> {
         Ok(Record::Leg { row })
     }
 
-    // The record of this kind in a body. What a record says is one enum, and its name is a part of the file itself, as the
-    // project demands: so its cases are made by kind here.
+    // The record of this kind in a body. Each kind has a body of its own, so the kind is matched; that what a record says is
+    // one enum, whose name is a part of the file itself, is a rule of the project.
     pub fn record(&self, kind: RecordKind) -> Result<Record<'a>, RecordFault>
         ensures { MatchResult result
             (λ x. Pass (body_checks kind self.now.bytes.now) × Says kind self.now.bytes.now x)

@@ -1,5 +1,5 @@
-// How far the search has come with a fix. A mark is copied before it is compared by `==`: an element of a slice that a
-// struct with ghost fields has, as `Search` has its marks, cannot be lent to it.
+// How far the search has come with a fix. A mark is copied before it is compared by `==`, or matched: an element of a
+// slice that a struct with ghost fields has, as `Search` has its marks, cannot be lent to `==`.
 #[derive(Clone, Copy, Debug, PartialEq, Eq)]
 pub(crate) enum Mark {
     // It has no label yet.

@@ -11,6 +11,7 @@ use chart::limits::{MAX_FIXES, MAX_LEGS};
 
 // The first `count` of `legs` are the chart's, and the array has room for the most legs. An `ArrayVec` would be made of
 // such an array too, since there is no default leg. And `first` has the first leg that leaves a fix.
+// Legs are linked by their numbers, since there is no heap.
 #[derive(Drop)]
 pub struct Snapshot {
     pub(crate) fixes: u16,

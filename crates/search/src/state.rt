@@ -6,7 +6,8 @@ use super::mark::Mark;
 use super::snapshot::Snapshot;
 use chart::kinds::Kind;
 
-// The label and the mark of each fix. One list of an enum over the total is not proved to fit in memory, since a
+// The label and the mark of each fix. Clauses name the two one by one, since the definitions speak of any labels and
+// marks, as the steps of a proof do. One list of an enum over the total is not proved to fit in memory, since a
 // kind bounds the size of a total alone.
 #[derive(Drop)]
 pub(crate) struct Search<'a, K: Kind> {
