@@ -86,6 +86,7 @@ impl Chart for Table<'_> {
         self.count
     }
 
+    // The number is tested, and not looked up by `get` alone, since rows that are not taken are no legs.
     fn leg(&self, k: u16) -> Option<Leg> {
         if k >= self.count {
             return None;

@@ -25,6 +25,7 @@ impl Chart for Snapshot {
         self.count
     }
 
+    // The number is tested, and not looked up by `get` alone, since the array has places that are no legs. So below.
     fn leg(&self, k: u16) -> Option<Leg> {
         if k < self.count {
             return Some(self.leg_at(k));
