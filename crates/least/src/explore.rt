@@ -5,6 +5,7 @@ ghost use Rattle.least.specs.Sweeps.{trip_of, Ready, Swept, BestAlone, GoesOn};
 use super::sweep::Sweep;
 use regret::walking::step;
 
+// Each call says that it leaves all but the best what it was: no type says what a call through `&mut self` leaves alone.
 impl<'a> Sweep<'a> {
     // Compares every route that begins with the chain, which leads to the fix `here`, with the best so far, or drops it.
     #[cycle(explore)]

@@ -5,6 +5,7 @@ use super::sweep::{Best, Sweep};
 use arrayvec::ArrayVec;
 use regret::regrets::regret_on;
 
+// Each call says that it leaves all but the best what it was: no type says what a call through `&mut self` leaves alone.
 impl<'a> Sweep<'a> {
     // Keeps the chain where it is a route and better than the best so far.
     pub(crate) fn weigh(&mut self)

@@ -24,6 +24,7 @@ pub(crate) struct Found {
     pub(crate) base: usize,
 }
 
+// Each call says that it leaves the file what it was: no type says what a call through `&mut self` leaves alone.
 impl Cursor<'_> {
     // The names, one after the other: the places of their records.
     fn read_fixes(&mut self, fixes: u16) -> Result<ArrayVec<usize, MAX_FIXES>, ChartFault>

@@ -13,6 +13,7 @@ use records::kinds::RecordKind;
 use records::records::Record;
 use records::sizes::{CHART_BODY, LEG_BODY, MARK_BYTES};
 
+// Each call says that it leaves the file what it was: no type says what a call through `&mut self` leaves alone.
 impl Cursor<'_> {
     // The chart's record: the numbers of fixes and of legs, where there is room for so many legs.
     pub(crate) fn read_chart(&mut self, room: usize) -> Result<Counts, ChartFault>

@@ -20,7 +20,7 @@ impl<'a, K: Kind> Search<'a, K> {
         u
     }
 
-    // The best of the fixes that are reached.
+    // The best of the fixes that are reached; a mark is matched, as `Mark` says.
     pub(crate) fn pick(&self) -> Option<usize>
         ensures { Picked (K.rule self.now.kind.now) self.now.label.now self.now.mark.now (fixes_of self.now.snapshot.now) result }
     {

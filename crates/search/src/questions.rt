@@ -25,7 +25,7 @@ impl Chart for Snapshot {
         self.count
     }
 
-    // The number is tested, and not looked up by `get` alone, since the array has places that are no legs. So below.
+    // The number is tested, and not looked up by `get` alone, since the array has places that are no legs.
     fn leg(&self, k: u16) -> Option<Leg> {
         if k < self.count {
             return Some(self.leg_at(k));
@@ -35,7 +35,8 @@ impl Chart for Snapshot {
 }
 
 impl Snapshot {
-    // The first leg that leaves a fix.
+    // The first leg that leaves a fix. The number is tested: with `get` in place of the test the proof was tried and did not
+    // close by what the check finds.
     pub fn first_leg(&self, fix: u16) -> Option<u16>
         ensures { FirstLeg (legs_of self.now) fix 0 result }
     {
@@ -45,7 +46,7 @@ impl Snapshot {
         self.first[fix as usize]
     }
 
-    // The first leg after the leg `k` that leaves the same fix; none where `k` is no leg's number.
+    // The first leg after the leg `k` that leaves the same fix; none where `k` is no leg's number. It is tested, as in `leg`.
     pub fn next_leg(&self, k: u16) -> Option<u16>
         ensures { NextLeg (legs_of self.now) k result }
     {

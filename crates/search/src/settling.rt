@@ -12,6 +12,8 @@ use super::state::Search;
 use chart::kinds::Kind;
 use chart::row::Standing;
 
+// Each call says that it leaves the snapshot and the kind what they were: no type says what a call through `&mut self` leaves
+// alone, so that any form of it is a clause.
 impl<'a, K: Kind> Search<'a, K> {
     // Takes `total` as the label of the fix `to`, which is not settled, unless its label is as good.
     fn offer(&mut self, to: usize, total: K::Total)
