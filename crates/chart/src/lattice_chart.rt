@@ -23,7 +23,7 @@ fn is_shaped(rows: u16, columns: u16, steps: usize) -> bool
 
 impl Interval {
     // Whether the interval is within the limits of times.
-    pub(crate) fn is_span(&self) -> bool
+    pub fn is_span(&self) -> bool
         ensures { MatchBool result (Spans self.now) (Spans self.now → ⊥) }
     {
         self.low <= self.high && self.high <= MAX_SECONDS

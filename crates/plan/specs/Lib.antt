@@ -1,0 +1,9 @@
+pub mod Limits
+pub mod Amendments
+pub mod Refusals
+pub mod Ledgers
+pub mod Overlays
+pub mod Plans
+pub mod Answers
+pub mod Places
+pub mod PlanLaws

@@ -1,0 +1,29 @@
+-- The legs of a plan: the chart's, with the amended ones in their places.
+use Rattle.std.specs.Prelude.{◌≡◌, ℕ, List, [], ◌∷◌, map, slice_set}
+use Rattle.chart.specs.declared.leg.Leg.{Leg}
+use Rattle.chart.specs.Legs.{at}
+use Rattle.plan.specs.declared.amended.Amended.{Amended}
+
+-- a leg with the times and the standing of an amended one
+unfoldable pub over : Leg → Amended → Leg
+over leg amended = record {
+  from = leg.from;
+  to = leg.to;
+  low = amended.times.low;
+  high = amended.times.high;
+  top = leg.top;
+  standing = amended.standing;
+  apart = leg.apart;
+  ordered = amended.ordered;
+  bounded = amended.bounded;
+  level = leg.level;
+}
+
+-- a chart's legs with the amended ones in their places
+unfoldable pub overlay : List Leg → List Amended → List Leg
+overlay legs [] = legs
+overlay legs (amended ∷ more) = slice_set (overlay legs more) amended.number (over (at legs amended.number) amended)
+
+-- the numbers of amended legs
+abbrev pub numbers : List Amended → List ℕ
+numbers amended = map (λ (a : Amended). a.number) amended
