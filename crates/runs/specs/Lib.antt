@@ -1,0 +1,4 @@
+pub mod Histories
+pub mod Said
+pub mod Owed
+pub mod Law
