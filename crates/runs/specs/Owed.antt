@@ -22,7 +22,7 @@ NoRoute t = (q : List ℕ) → Flies t q → ⊥
 -- an amendment to which these grounds apply is refused with the number of the first, or granted with the next revision where
 -- there are none
 abbrev pub amend_said : List AmendRefusal → ℕ → Said
-amend_said [] revision = granted (revision + 1 ∷ [])
+amend_said [] revision = granted ((revision + 1) ∷ [])
 amend_said (first ∷ more) revision = refused (amend_number first)
 
 -- a route call on a chart of n fixes is refused with 15 where its part of the memory is short
