@@ -1,7 +1,7 @@
 -- What every history of calls keeps of a ledger.
 use Rattle.std.proofs.Common.{◌≡◌, ℕ, ◌+◌, not, Bool, true, false, cond, List, [], ◌∷◌, ◌++◌, length, refl, sym, ap, ◌∙◌, add_assoc, inl, inr, ⊎_elim, ◌||◌, ◌⊎◌, arith}
 use Rattle.std.specs.Prelude.{◌==◌, slice_set}
-use Rattle.std.specs.List.{filter, list_any}
+use Rattle.std.specs.List.{list_any}
 use Rattle.std.proofs.lemmas.Bool.{eqb-false}
 use Rattle.std.proofs.lemmas.List.{length-append}
 use Rattle.chart.specs.declared.leg.Leg.{Leg}
@@ -10,7 +10,7 @@ use Rattle.chart.specs.Routes.{In, Once}
 use Rattle.plan.specs.declared.amendment.Amendment.{Amendment}
 use Rattle.plan.specs.declared.refusals.AmendRefusal.{AmendRefusal}
 use Rattle.plan.specs.Amendments.{changed_leg, restores}
-use Rattle.plan.specs.Ledgers.{Ledger, grounds, entered, struck, renumbered, amended_by, ledger_by, ledger_after}
+use Rattle.plan.specs.Ledgers.{Ledger, grounds, entered, struck, ledger_by, ledger_after}
 use Rattle.runs.specs.declared.calls.Call.{Call}
 use Rattle.runs.specs.declared.calls.Call.TheVariants.{Amend, Route, Regret, Floor, Quickest, Level, Status}
 use Rattle.runs.specs.Histories.{step, after, granted, granted_by, granted_now, made, Keeps}
