@@ -49,10 +49,10 @@ fn interval(word: &str) -> Result<Interval, Unread> {
     times(low, high)
 }
 
-// Three intervals for each step.
+// Three intervals for each step, of which there is one at least.
 pub(crate) fn steps(heap: Global, words: &[&str]) -> Result<Vec<Step>, Unread> {
     let mut steps = Vec::new(heap);
-    let (turns, []) = words.as_chunks::<3>() else {
+    let (turns @ [_, ..], []) = words.as_chunks::<3>() else {
         return Err(Unread::Malformed);
     };
     for [back, ahead, on] in turns {

@@ -1,14 +1,13 @@
-// Commands and their replies: one line each, the same for the same input on every run.
+// The program: a session that takes commands, where they come from, and the morning that the program carries.
 #![tactic(auto)]
 
-pub mod builtin;
+mod asking;
 pub mod carried;
-pub mod commands;
-pub mod file_routes;
-pub mod grids;
-pub mod replies;
-pub mod routes;
+mod charts;
+pub mod files;
+pub mod morning;
 pub mod run;
 pub mod scripts;
 pub mod session;
-pub mod tables;
+mod slots;
+mod tally;

@@ -1,142 +1,87 @@
-// The state between two commands, and the reply to each.
-use super::commands::Command;
-use super::replies::{Refused, Size};
-use chart::limits::MAX_LEGS;
-use chart::row::{Row, Standing};
-use reader::counts::Counts;
-use reader::fix_name::NoSuchFix;
-use reader::readers::Reader;
-use records::faults::{ChartFault, Fault};
+// The state between two commands, and what each command is answered.
+use super::charts::Present;
+use super::files::Files;
+use super::slots::Slot;
+use commands::orders::{Command, Grid, Order};
+use replies::answers::Answer;
+use replies::declines::{Declined, Stopped};
+use search::snapshot::Snapshot;
 use std::alloc::{AllocError, Global};
-use std::fmt;
 
-// Where the paths of chart files lead.
-pub trait Files {
-    // The bytes of the file at a path; none where it can't be read.
-    fn fetch(&self, rt: &HostRuntime, path: &str) -> Result<Option<Vec<u8>>, AllocError>;
-}
-
-// What is replied to a command.
-#[derive(Drop)]
-pub enum Reply<'a> {
-    Chart(Counts),
-    Fault(ChartFault),
-    Unreadable { path: &'a str },
-    Name { text: String, place: usize },
-    NoSuchFix(NoSuchFix),
-    OutOfTurn,
-    Malformed { command: &'static str },
-    Unknown,
-}
-
-impl fmt::Display for Reply<'_> {
-    fn fmt<W: fmt::Write>(&self, f: &mut fmt::Formatter<W>) -> fmt::Result {
-        match self {
-            Reply::Chart(counts) => {
-                let command = "chart";
-                let counts = *counts;
-                Size { command, counts }.fmt(f)
-            }
-            Reply::Fault(fault) => {
-                let report = fault.report();
-                let number = report.number;
-                write!(
-                    f,
-                    "chart fault {number} {} {}: {fault}",
-                    report.layer, report.place
-                )
-            }
-            Reply::Unreadable { path } => write!(f, "chart unreadable {path}"),
-            Reply::Name { text, place } => write!(f, "name {text} at {place}"),
-            Reply::NoSuchFix(refusal) => {
-                let command = "name";
-                let refusal = *refusal;
-                Refused { command, refusal }.fmt(f)
-            }
-            Reply::OutOfTurn => f.write_str("name out of turn"),
-            Reply::Malformed { command } => write!(f, "{command} malformed"),
-            Reply::Unknown => f.write_str("unknown command"),
-        }
-    }
-}
+// Plans have numbers from 1 on.
+const PLANS: usize = 9;
 
 #[derive(Drop)]
 pub struct Session<F> {
     heap: Global,
     files: F,
-    // The bytes of the last chart file that was accepted.
-    file: Option<Vec<u8>>,
-}
-
-pub fn blank_rows(heap: Global) -> Result<Vec<Row>, AllocError> {
-    let blank = Row {
-        from: 0,
-        to: 0,
-        low: 0,
-        high: 0,
-        top: 0,
-        standing: Standing::Closed,
-    };
-    vec![in heap; blank; MAX_LEGS]
-}
-
-// A reader over an accepted file, once it has read it.
-fn reader_of(heap: Global, file: &[u8]) -> Result<Reader<'_>, AllocError> {
-    let mut rows = blank_rows(heap)?;
-    let mut reader = Reader::new(file);
-    let _found = reader.read_file(rows.as_mut_slice());
-    Ok(reader)
+    present: Option<Present>,
+    plans: Vec<Slot>,
 }
 
 impl<F: Files> Session<F> {
-    pub fn new(heap: Global, files: F) -> Session<F> {
-        Session {
+    pub fn new(heap: Global, files: F) -> Result<Session<F>, AllocError> {
+        let mut plans = Vec::new(heap);
+        for _ in 0..PLANS {
+            plans.push(Slot::Vacant)?;
+        }
+        Ok(Session {
             heap,
             files,
-            file: None,
-        }
+            present: None,
+            plans,
+        })
     }
 
-    // A refused file leaves the present chart what it was.
-    fn chart<'a>(&mut self, rt: &HostRuntime, path: &'a str) -> Result<Reply<'a>, AllocError> {
-        let Some(bytes) = self.files.fetch(rt, path)? else {
-            return Ok(Reply::Unreadable { path });
-        };
-        let mut rows = blank_rows(self.heap)?;
-        let found = Reader::new(bytes.as_slice()).read_file(rows.as_mut_slice());
-        match found {
-            Ok(counts) => {
-                self.file = Some(bytes);
-                Ok(Reply::Chart(counts))
+    // A file that is not accepted leaves the present chart what it was.
+    fn chart<'a>(&mut self, rt: &HostRuntime, path: &'a str) -> Result<Answer, Stopped<'a>> {
+        let file = self.files.fetch(rt, path)?;
+        let file = file.ok_or(Declined::Unreadable { path })?;
+        let present = Present::of_file(self.heap, file)?;
+        let counts = present.counts();
+        self.present = Some(present);
+        Ok(Answer::Chart(counts))
+    }
+
+    fn lattice<'a>(&mut self, grid: &Grid) -> Result<Answer, Stopped<'a>> {
+        let present = Present::of_grid(grid)?;
+        let counts = present.counts();
+        self.present = Some(present);
+        Ok(Answer::Lattice(counts))
+    }
+
+    fn name<'a>(&self, fix: u16) -> Result<Answer, Stopped<'a>> {
+        let present = self.present.as_ref().ok_or(Declined::OutOfTurn)?;
+        present.name(self.heap, fix)
+    }
+
+    fn order<'a>(&mut self, plan: u16, order: &Order) -> Result<Answer, Stopped<'a>> {
+        let heap = self.heap;
+        let place = (plan as usize).wrapping_sub(1);
+        let slot = self.plans.get_mut(place).ok_or(Declined::OutOfTurn)?;
+        match order {
+            Order::Draft => {
+                let present = self.present.as_ref().ok_or(Declined::OutOfTurn)?;
+                slot.draft(plan, Snapshot::of(&present.chart))
             }
-            Err(fault) => Ok(Reply::Fault(fault)),
+            Order::Ends(ends) => slot.ends(*ends),
+            Order::File => slot.file(),
+            Order::Call(call) => slot.call(heap, call),
+            Order::Close => slot.close(),
         }
     }
 
-    fn name<'a>(&self, fix: u16) -> Result<Reply<'a>, AllocError> {
-        let Some(file) = &self.file else {
-            return Ok(Reply::OutOfTurn);
-        };
-        let reader = reader_of(self.heap, file.as_slice())?;
-        match reader.name(fix) {
-            Ok(name) => Ok(Reply::Name {
-                text: String::from_utf8_lossy(self.heap, name.text)?,
-                place: name.place,
-            }),
-            Err(refusal) => Ok(Reply::NoSuchFix(refusal)),
-        }
-    }
-
-    pub fn reply<'a>(
+    // Runs one command.
+    pub fn run<'a>(
         &mut self,
         rt: &HostRuntime,
         command: Command<'a>,
-    ) -> Result<Reply<'a>, AllocError> {
+    ) -> Result<Answer, Stopped<'a>> {
         match command {
             Command::Chart { path } => self.chart(rt, path),
+            Command::Lattice(grid) => self.lattice(&grid),
             Command::Name { fix } => self.name(fix),
-            Command::Malformed { command } => Ok(Reply::Malformed { command }),
-            Command::Unknown => Ok(Reply::Unknown),
+            Command::Plan { plan, order } => self.order(plan, &order),
         }
     }
 }
