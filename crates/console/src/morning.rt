@@ -6,7 +6,7 @@ use super::tally::{Tally, called};
 use commands::parsing::parse;
 
 // Plans 1 and 2 are sent the same sound calls, and plan 2 one more amendment, whose low time is above its high.
-const SCRIPT: [&str; 69] = [
+const SCRIPT: [&str; 68] = [
     "chart four-fixes.chart",
     "name 0",
     "name 1",
@@ -70,11 +70,10 @@ const SCRIPT: [&str; 69] = [
     "floor 3 2",
     "status 3",
     "close 1",
-    "status 1",
-    "route 1",
     "close 2",
     "close 3",
     "status 3",
+    "route 3",
     "amend 3 2 3 restore",
 ];
 
@@ -88,7 +87,7 @@ pub fn show_morning(rt: &HostRuntime) -> anyhow::Result<()> {
         let plan = called(&line);
         if let Some(reply) = reply(rt, &mut session, line)? {
             println!(rt; "{reply}")?;
-            tally.enter(plan, &reply)?;
+            tally.enter(text, plan, &reply)?;
         }
     }
     println!(rt; "{tally}")?;

@@ -32,19 +32,45 @@ impl Deed {
     }
 }
 
-// One reply: the plan whose call it answers, if any, and what is printed.
+// One line of the script and the reply to it, with the plan whose call it is, if any.
 #[derive(Drop)]
-struct Entry {
+struct Entry<'a> {
+    line: &'a str,
     plan: Option<u16>,
     deed: Deed,
-    text: String,
+    reply: String,
 }
 
-// All replies, in their order.
+// A call, by its verb and the words after the number of its plan, and the reply to it.
+#[derive(Clone, Copy, PartialEq, Eq)]
+struct Exchange<'a> {
+    verb: &'a str,
+    words: &'a str,
+    reply: &'a str,
+}
+
+impl Entry<'_> {
+    fn exchange(&self) -> Exchange<'_> {
+        let (verb, others) = self.line.split_once(' ').unwrap_or((self.line, ""));
+        let (_plan, words) = others.split_once(' ').unwrap_or((others, ""));
+        Exchange {
+            verb,
+            words,
+            reply: self.reply.as_str(),
+        }
+    }
+
+    // Whether it is a call of a plan, and no amendment that was refused.
+    fn is_sound(&self, plan: u16) -> bool {
+        self.plan == Some(plan) && self.deed != Deed::Refused
+    }
+}
+
+// All lines that have a reply, in their order.
 #[derive(Drop)]
-pub(crate) struct Tally {
+pub(crate) struct Tally<'a> {
     heap: Global,
-    entries: Vec<Entry>,
+    entries: Vec<Entry<'a>>,
 }
 
 // The plan whose call a line is, if any.
@@ -61,19 +87,25 @@ pub(crate) fn called(line: &Line<'_>) -> Option<u16> {
     }
 }
 
-impl Tally {
-    pub(crate) fn new(heap: Global) -> Tally {
+impl<'a> Tally<'a> {
+    pub(crate) fn new(heap: Global) -> Tally<'a> {
         Tally {
             heap,
             entries: Vec::new(heap),
         }
     }
 
-    pub(crate) fn enter(&mut self, plan: Option<u16>, reply: &Reply<'_>) -> Result<(), AllocError> {
+    pub(crate) fn enter(
+        &mut self,
+        line: &'a str,
+        plan: Option<u16>,
+        reply: &Reply<'_>,
+    ) -> Result<(), AllocError> {
         let entry = Entry {
+            line,
             plan,
             deed: Deed::of(reply),
-            text: reply.to_string(self.heap)?,
+            reply: reply.to_string(self.heap)?,
         };
         self.entries.push(entry)?;
         Ok(())
@@ -86,12 +118,12 @@ impl Tally {
             .count()
     }
 
-    // What a plan replied to its calls, but for the amendments that were refused.
-    fn sound(&self, plan: u16) -> Result<Vec<&str>, AllocError> {
+    // The calls of a plan but for the amendments that were refused, and the replies to them.
+    fn sound(&self, plan: u16) -> Result<Vec<Exchange<'_>>, AllocError> {
         self.entries
             .iter()
-            .filter(|entry| entry.plan == Some(plan) && entry.deed != Deed::Refused)
-            .map(|entry| entry.text.as_str())
+            .filter(|entry| entry.is_sound(plan))
+            .map(|entry| entry.exchange())
             .collect(self.heap)
     }
 
@@ -105,17 +137,17 @@ impl Tally {
 
     // How two plans replied to the same sound calls.
     pub(crate) fn compare(&self, first: u16, second: u16) -> Result<Comparison, AllocError> {
-        let replies = self.sound(first)?;
+        let sound = self.sound(first)?;
         Ok(Comparison {
-            plans: (first, second),
-            calls: replies.len(),
-            same: replies.as_slice() == self.sound(second)?.as_slice(),
-            refused: (self.refused(first), self.refused(second)),
+            plans: [first, second],
+            refused: [self.refused(first), self.refused(second)],
+            calls: sound.len(),
+            same: sound.as_slice() == self.sound(second)?.as_slice(),
         })
     }
 }
 
-impl fmt::Display for Tally {
+impl fmt::Display for Tally<'_> {
     fn fmt<W: fmt::Write>(&self, f: &mut fmt::Formatter<W>) -> fmt::Result {
         let filed = self.count(Deed::Filed);
         let granted = self.count(Deed::Granted);
@@ -123,29 +155,34 @@ impl fmt::Display for Tally {
         let routes = self.count(Deed::Routed);
         write!(
             f,
-            "# {filed} plans filed, {granted} amendments granted, {refused} refused, {routes} routes answered"
+            "plans filed {filed}, amendments granted {granted} and refused {refused}, routes answered {routes}"
         )
     }
 }
 
-// Whether two plans gave the same replies to their sound calls, and how many amendments of each were refused.
+// Whether two plans were sent the same sound calls and gave the same replies to them, and how many amendments of each were
+// refused.
 #[derive(Clone, Copy)]
 pub(crate) struct Comparison {
-    plans: (u16, u16),
+    plans: [u16; 2],
+    refused: [usize; 2],
     calls: usize,
     same: bool,
-    refused: (usize, usize),
 }
 
 impl fmt::Display for Comparison {
     fn fmt<W: fmt::Write>(&self, f: &mut fmt::Formatter<W>) -> fmt::Result {
-        let (first, second) = self.plans;
-        let (of_first, of_second) = self.refused;
-        let calls = self.calls;
-        let same = if self.same { "the same" } else { "other" };
-        write!(
-            f,
-            "# plans {first} and {second} gave {same} replies to the same {calls} sound calls; of plan {first} {of_first} amendments were refused, of plan {second} {of_second}"
-        )
+        let [first, second] = self.plans;
+        let [of_first, of_second] = self.refused;
+        if self.same {
+            let calls = self.calls;
+            write!(
+                f,
+                "plans {first} and {second}: the same replies to the same {calls} sound calls,"
+            )?;
+        } else {
+            write!(f, "plans {first} and {second}: not the same,")?;
+        }
+        write!(f, " with {of_first} and {of_second} amendments refused")
     }
 }
