@@ -1,5 +1,5 @@
 // Chart files that the program carries.
-use super::files::Files;
+use sessions::files::Files;
 use std::alloc::AllocError;
 
 // A chart of four fixes and five legs.

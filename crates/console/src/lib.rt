@@ -1,13 +1,8 @@
-// The program: a session that takes commands, where they come from, and the morning that the program carries.
+// The program: where commands come from, and the morning that it carries.
 #![tactic(auto)]
 
-mod asking;
 pub mod carried;
-mod charts;
-pub mod files;
 pub mod morning;
 pub mod run;
 pub mod scripts;
-pub mod session;
-mod slots;
 mod tally;

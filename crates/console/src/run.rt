@@ -1,8 +1,8 @@
 // The program: the morning that it carries, the commands of a file, or those of standard input.
-use super::files::FolderFiles;
 use super::morning::show_morning;
 use super::scripts::follow;
-use super::session::Session;
+use sessions::files::FolderFiles;
+use sessions::session::Session;
 use std::io::BufReader;
 use std::{env, fs};
 

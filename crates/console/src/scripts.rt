@@ -1,10 +1,10 @@
 // Scripts: a command to a line, and a reply to each.
-use super::files::Files;
-use super::session::Session;
 use commands::orders::Line;
 use commands::parsing::parse;
 use replies::declines::Declined;
 use replies::replies::Reply;
+use sessions::files::Files;
+use sessions::session::Session;
 use std::alloc::AllocError;
 use std::io::BufRead;
 

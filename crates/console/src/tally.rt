@@ -7,70 +7,24 @@ use replies::replies::Reply;
 use std::alloc::{AllocError, Global};
 use std::fmt;
 
-// What a reply says was done.
-#[derive(Clone, Copy, PartialEq, Eq)]
-enum Deed {
-    Filed,
-    Granted,
-    Refused,
-    Routed,
-    Other,
-}
-
-impl Deed {
-    fn of(reply: &Reply<'_>) -> Deed {
-        match reply {
-            Reply::Granted(Answer::File { .. }) => Deed::Filed,
-            Reply::Granted(Answer::Amend { .. }) => Deed::Granted,
-            Reply::Granted(Answer::Route { .. }) => Deed::Routed,
-            Reply::Declined {
-                verb: Verb::Amend,
-                why: Declined::Refused(_),
-            } => Deed::Refused,
-            _ => Deed::Other,
-        }
-    }
-}
-
-// One line of the script and the reply to it, with the plan whose call it is, if any.
+// How often each thing was done, and what two plans were asked and replied.
 #[derive(Drop)]
-struct Entry<'a> {
-    line: &'a str,
-    plan: Option<u16>,
-    deed: Deed,
-    reply: String,
+pub(crate) struct Tally {
+    filed: u32,
+    granted: u32,
+    refused: u32,
+    routes: u32,
+    first: Transcript,
+    second: Transcript,
 }
 
-// A call, by its verb and the words after the number of its plan, and the reply to it.
-#[derive(Clone, Copy, PartialEq, Eq)]
-struct Exchange<'a> {
-    verb: &'a str,
-    words: &'a str,
-    reply: &'a str,
-}
-
-impl Entry<'_> {
-    fn exchange(&self) -> Exchange<'_> {
-        let (verb, others) = self.line.split_once(' ').unwrap_or((self.line, ""));
-        let (_plan, words) = others.split_once(' ').unwrap_or((others, ""));
-        Exchange {
-            verb,
-            words,
-            reply: self.reply.as_str(),
-        }
-    }
-
-    // Whether it is a call of a plan, and no amendment that was refused.
-    fn is_sound(&self, plan: u16) -> bool {
-        self.plan == Some(plan) && self.deed != Deed::Refused
-    }
-}
-
-// All lines that have a reply, in their order.
+// The calls of one plan, without its number, and the replies to them, but for the amendments that were refused: those are counted.
 #[derive(Drop)]
-pub(crate) struct Tally<'a> {
-    heap: Global,
-    entries: Vec<Entry<'a>>,
+struct Transcript {
+    plan: u16,
+    text: String,
+    calls: u32,
+    refused: u32,
 }
 
 // The plan whose call a line is, if any.
@@ -87,102 +41,113 @@ pub(crate) fn called(line: &Line<'_>) -> Option<u16> {
     }
 }
 
-impl<'a> Tally<'a> {
-    pub(crate) fn new(heap: Global) -> Tally<'a> {
-        Tally {
-            heap,
-            entries: Vec::new(heap),
+// Whether it is the reply to an amendment that is refused.
+fn is_refused(reply: &Reply<'_>) -> bool {
+    matches!(
+        reply,
+        Reply::Declined {
+            verb: Verb::Amend,
+            why: Declined::Refused(_),
+        }
+    )
+}
+
+fn add_one(count: &mut u32) {
+    *count = count.saturating_add(1);
+}
+
+impl Transcript {
+    fn new(heap: Global, plan: u16) -> Transcript {
+        Transcript {
+            plan,
+            text: String::new(heap),
+            calls: 0,
+            refused: 0,
         }
     }
 
+    fn enter(&mut self, line: &str, reply: &Reply<'_>) -> Result<(), AllocError> {
+        if is_refused(reply) {
+            add_one(&mut self.refused);
+            return Ok(());
+        }
+        let (verb, others) = line.split_once(' ').unwrap_or((line, ""));
+        let (_plan, words) = others.split_once(' ').unwrap_or((others, ""));
+        writeln!(self.text, "{verb} {words}: {reply}")?;
+        add_one(&mut self.calls);
+        Ok(())
+    }
+}
+
+impl Tally {
+    // Nothing was done yet. The two plans are to be compared.
+    pub(crate) fn new(heap: Global, first: u16, second: u16) -> Tally {
+        Tally {
+            filed: 0,
+            granted: 0,
+            refused: 0,
+            routes: 0,
+            first: Transcript::new(heap, first),
+            second: Transcript::new(heap, second),
+        }
+    }
+
+    fn count(&mut self, reply: &Reply<'_>) {
+        match reply {
+            Reply::Granted(Answer::File { .. }) => add_one(&mut self.filed),
+            Reply::Granted(Answer::Amend { .. }) => add_one(&mut self.granted),
+            Reply::Granted(Answer::Route { .. }) => add_one(&mut self.routes),
+            _ if is_refused(reply) => add_one(&mut self.refused),
+            _ => {}
+        }
+    }
+
+    // Enters the reply to a line, which is a call of this plan, if of any.
     pub(crate) fn enter(
         &mut self,
-        line: &'a str,
+        line: &str,
         plan: Option<u16>,
         reply: &Reply<'_>,
     ) -> Result<(), AllocError> {
-        let entry = Entry {
-            line,
-            plan,
-            deed: Deed::of(reply),
-            reply: reply.to_string(self.heap)?,
-        };
-        self.entries.push(entry)?;
+        self.count(reply);
+        if plan == Some(self.first.plan) {
+            self.first.enter(line, reply)?;
+        }
+        if plan == Some(self.second.plan) {
+            self.second.enter(line, reply)?;
+        }
         Ok(())
     }
-
-    fn count(&self, deed: Deed) -> usize {
-        self.entries
-            .iter()
-            .filter(|entry| entry.deed == deed)
-            .count()
-    }
-
-    // The calls of a plan but for the amendments that were refused, and the replies to them.
-    fn sound(&self, plan: u16) -> Result<Vec<Exchange<'_>>, AllocError> {
-        self.entries
-            .iter()
-            .filter(|entry| entry.is_sound(plan))
-            .map(|entry| entry.exchange())
-            .collect(self.heap)
-    }
-
-    // How many amendments of a plan were refused.
-    fn refused(&self, plan: u16) -> usize {
-        self.entries
-            .iter()
-            .filter(|entry| entry.plan == Some(plan) && entry.deed == Deed::Refused)
-            .count()
-    }
-
-    // How two plans replied to the same sound calls.
-    pub(crate) fn compare(&self, first: u16, second: u16) -> Result<Comparison, AllocError> {
-        let sound = self.sound(first)?;
-        Ok(Comparison {
-            plans: [first, second],
-            refused: [self.refused(first), self.refused(second)],
-            calls: sound.len(),
-            same: sound.as_slice() == self.sound(second)?.as_slice(),
-        })
-    }
 }
 
-impl fmt::Display for Tally<'_> {
+impl fmt::Display for Tally {
     fn fmt<W: fmt::Write>(&self, f: &mut fmt::Formatter<W>) -> fmt::Result {
-        let filed = self.count(Deed::Filed);
-        let granted = self.count(Deed::Granted);
-        let refused = self.count(Deed::Refused);
-        let routes = self.count(Deed::Routed);
-        write!(
+        let Tally {
+            filed,
+            granted,
+            refused,
+            routes,
+            ..
+        } = self;
+        writeln!(
             f,
             "plans filed {filed}, amendments granted {granted} and refused {refused}, routes answered {routes}"
-        )
-    }
-}
-
-// Whether two plans were sent the same sound calls and gave the same replies to them, and how many amendments of each were
-// refused.
-#[derive(Clone, Copy)]
-pub(crate) struct Comparison {
-    plans: [u16; 2],
-    refused: [usize; 2],
-    calls: usize,
-    same: bool,
-}
-
-impl fmt::Display for Comparison {
-    fn fmt<W: fmt::Write>(&self, f: &mut fmt::Formatter<W>) -> fmt::Result {
-        let [first, second] = self.plans;
-        let [of_first, of_second] = self.refused;
-        if self.same {
-            let calls = self.calls;
+        )?;
+        let (first, second) = (&self.first, &self.second);
+        write!(f, "plans {} and {}: ", first.plan, second.plan)?;
+        if first.text.as_str() == second.text.as_str() {
             write!(
                 f,
-                "plans {first} and {second}: the same replies to the same {calls} sound calls,"
+                "the same replies to the same {} sound calls",
+                first.calls
             )?;
         } else {
-            write!(f, "plans {first} and {second}: not the same,")?;
+            f.write_str("not the same calls and replies")?;
         }
-        write!(f, " with {of_first} and {of_second} amendments refused")
+        write!(
+            f,
+            "; amendments refused {} and {}",
+            first.refused, second.refused
+        )
     }
 }
