@@ -1,5 +1,5 @@
 // The first words of commands.
-ghost use Rattle.std.specs.Prelude.{Some};
+ghost use Rattle.std.specs.Prelude.{◌≡◌, Some, MatchOption};
 ghost use Rattle.commands.specs.Verbs.{verb_word};
 
 use std::fmt;
@@ -25,7 +25,9 @@ pub enum Verb {
 
 impl Verb {
     // The verb that a word is.
-    pub(crate) fn of(word: &str) -> Option<Verb> {
+    pub(crate) fn of(word: &str) -> Option<Verb>
+        ensures { MatchOption result ((verb : Verb) → word.now ≡ verb_word verb → ⊥) (λ verb. word.now ≡ verb_word verb) }
+    {
         Some(match word {
             "chart" => Verb::Chart,
             "lattice" => Verb::Lattice,

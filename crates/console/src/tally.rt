@@ -134,7 +134,7 @@ impl fmt::Display for Tally {
             "plans filed {filed}, amendments granted {granted} and refused {refused}, routes answered {routes}"
         )?;
         let (first, second) = (&self.first, &self.second);
-        write!(f, "plans {} and {}: ", first.plan, second.plan)?;
+        write!(f, "plans {} and {} gave ", first.plan, second.plan)?;
         if first.text.as_str() == second.text.as_str() {
             write!(
                 f,
@@ -142,11 +142,11 @@ impl fmt::Display for Tally {
                 first.calls
             )?;
         } else {
-            f.write_str("not the same calls and replies")?;
+            f.write_str("other replies, or had other sound calls")?;
         }
         write!(
             f,
-            "; amendments refused {} and {}",
+            ", though {} amendments of the one and {} of the other were refused",
             first.refused, second.refused
         )
     }
