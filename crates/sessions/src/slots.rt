@@ -1,4 +1,6 @@
 // Plans by number, each in its state.
+ghost use Rattle.std.specs.Prelude.{◌≡◌, true, is_err, OnErr};
+
 use super::asking::ask;
 use chart::ends::Ends;
 use commands::orders::PlanCall;
@@ -30,7 +32,9 @@ impl Default for Slot {
 
 impl Slot {
     // A number is drafted again once its plan is closed.
-    pub(crate) fn draft<'a>(&mut self, plan: u16, chart: Snapshot) -> Result<Answer, Stopped<'a>> {
+    pub(crate) fn draft<'a>(&mut self, plan: u16, chart: Snapshot) -> Result<Answer, Stopped<'a>>
+        ensures { OnErr result (self.new ≡ self.old) }
+    {
         match self {
             Slot::Vacant | Slot::Closed(_) => {
                 *self = Slot::Draft(Draft::new(chart));
@@ -40,7 +44,9 @@ impl Slot {
         }
     }
 
-    pub(crate) fn ends<'a>(&mut self, ends: Ends) -> Result<Answer, Stopped<'a>> {
+    pub(crate) fn ends<'a>(&mut self, ends: Ends) -> Result<Answer, Stopped<'a>>
+        ensures { OnErr result (self.new ≡ self.old) }
+    {
         let Slot::Draft(draft) = self else {
             return Err(Declined::OutOfTurn.into());
         };
@@ -48,7 +54,9 @@ impl Slot {
         Ok(Answer::Ends(ends))
     }
 
-    pub(crate) fn file<'a>(&mut self) -> Result<Answer, Stopped<'a>> {
+    pub(crate) fn file<'a>(&mut self) -> Result<Answer, Stopped<'a>>
+        ensures { OnErr result (self.new ≡ self.old) }
+    {
         match mem::take(self) {
             Slot::Draft(draft) => {
                 let filed = draft.file();
@@ -60,7 +68,9 @@ impl Slot {
         }
     }
 
-    pub(crate) fn close<'a>(&mut self) -> Result<Answer, Stopped<'a>> {
+    pub(crate) fn close<'a>(&mut self) -> Result<Answer, Stopped<'a>>
+        ensures { OnErr result (self.new ≡ self.old) }
+    {
         match mem::take(self) {
             Slot::Filed(filed) => {
                 let (closed, _chart) = filed.close();
@@ -72,7 +82,10 @@ impl Slot {
     }
 
     // The plan stays as it was, since it is not in the state that the command needs.
-    fn keep<'a>(&mut self, slot: Slot) -> Result<Answer, Stopped<'a>> {
+    fn keep<'a>(&mut self, slot: Slot) -> Result<Answer, Stopped<'a>>
+        ensures kept { self.new ≡ slot }
+        ensures declined { is_err result ≡ true }
+    {
         *self = slot;
         Err(Declined::OutOfTurn.into())
     }
