@@ -1,4 +1,7 @@
 // Replies to commands that are granted.
+ghost use Rattle.std.specs.Prelude.{Some};
+ghost use Rattle.replies.specs.Texts.{list_text, size_text, status_text, answer_text};
+
 use chart::ends::Ends;
 use chart::flown::Flown;
 use plan::status::Status;
@@ -29,6 +32,8 @@ pub enum Answer {
 struct List<'a>(&'a [u16]);
 
 impl fmt::Display for List<'_> {
+    ghost output = { λ list. Some (list_text list.0.now) };
+
     fn fmt<W: fmt::Write>(&self, f: &mut fmt::Formatter<W>) -> fmt::Result {
         for k in self.0 {
             write!(f, " {k}")?;
@@ -42,6 +47,8 @@ impl fmt::Display for List<'_> {
 struct Size(Counts);
 
 impl fmt::Display for Size {
+    ghost output = { λ size. Some (size_text size.0) };
+
     fn fmt<W: fmt::Write>(&self, f: &mut fmt::Formatter<W>) -> fmt::Result {
         let Counts { fixes, legs } = self.0;
         write!(f, "{fixes} fixes {legs} legs")
@@ -53,6 +60,8 @@ impl fmt::Display for Size {
 struct Stand(Status);
 
 impl fmt::Display for Stand {
+    ghost output = { λ stand. Some (status_text stand.0) };
+
     fn fmt<W: fmt::Write>(&self, f: &mut fmt::Formatter<W>) -> fmt::Result {
         let Status {
             revision,
@@ -67,6 +76,8 @@ impl fmt::Display for Stand {
 }
 
 impl fmt::Display for Answer {
+    ghost output = { λ answer. Some (answer_text answer) };
+
     fn fmt<W: fmt::Write>(&self, f: &mut fmt::Formatter<W>) -> fmt::Result {
         match self {
             Answer::Chart(counts) => write!(f, "chart {}", Size(*counts)),

@@ -1,4 +1,7 @@
 // Replies to commands that are not granted.
+ghost use Rattle.std.specs.Prelude.{Some};
+ghost use Rattle.replies.specs.Texts.{declined_text};
+
 use super::grounds::Ground;
 use chart::refusals::Refusal;
 use records::faults::{ChartFault, Fault};
@@ -17,9 +20,11 @@ pub enum Declined<'a> {
 }
 
 impl fmt::Display for Declined<'_> {
+    ghost output = { λ declined. Some (declined_text declined) };
+
     fn fmt<W: fmt::Write>(&self, f: &mut fmt::Formatter<W>) -> fmt::Result {
         match self {
-            Declined::Refused(ground) => write!(f, "refused {}: {ground}", ground.number()),
+            Declined::Refused(refusal) => write!(f, "refused {}: {refusal}", refusal.number()),
             Declined::Fault(fault) => {
                 let report = fault.report();
                 let number = report.number;

@@ -43,7 +43,7 @@ impl Refusal for Ground {
 }
 
 impl fmt::Display for Ground {
-    ghost output = { λ ground. Some (ground_words ground) };
+    ghost output = { λ g. Some (ground_words g) };
 
     fn fmt<W: fmt::Write>(&self, f: &mut fmt::Formatter<W>) -> fmt::Result {
         match self {

@@ -1,4 +1,7 @@
 // Replies of either kind.
+ghost use Rattle.std.specs.Prelude.{Some};
+ghost use Rattle.replies.specs.Texts.{reply_text};
+
 use super::answers::Answer;
 use super::declines::{Declined, Stopped};
 use commands::verbs::Verb;
@@ -25,6 +28,8 @@ impl<'a> Reply<'a> {
 }
 
 impl fmt::Display for Reply<'_> {
+    ghost output = { λ reply. Some (reply_text reply) };
+
     fn fmt<W: fmt::Write>(&self, f: &mut fmt::Formatter<W>) -> fmt::Result {
         match self {
             Reply::Granted(answer) => answer.fmt(f),
