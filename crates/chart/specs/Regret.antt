@@ -65,6 +65,10 @@ pub record Worst (legs : List Leg) (p : List ℕ) (w : ℕ → ℕ) : Type 0 whe
 abbrev pub WorstChoiceGivesRegret : Type 0
 WorstChoiceGivesRegret = (t : Trip) (p : List ℕ) (w : ℕ → ℕ) (b x : ℕ) → Flies t p → Worst t.legs p w → LeastTime t w b → time w p ≡ b + x → Regret t p x
 
+-- in no choice does a route take longer than another one by more than its regret
+abbrev pub RegretIsNeverExceeded : Type 0
+RegretIsNeverExceeded = (t : Trip) (p : List ℕ) (x : ℕ) → Regret t p x → (c : ℕ → ℕ) → Choice t.legs c → (q : List ℕ) → Flies t q → time c p ≤ time c q + x
+
 -- no route is without a regret
 abbrev pub EveryRouteHasARegret : Type 0
 EveryRouteHasARegret = (t : Trip) (p : List ℕ) → Flies t p → ((x : ℕ) → Regret t p x → ⊥) → ⊥

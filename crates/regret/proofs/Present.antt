@@ -1,9 +1,9 @@
--- No route is without a regret.
-use Rattle.std.proofs.Common.{◌≡◌, ℕ, zero, suc, ◌-◌, ◌≤◌, ◌⊎◌, List, refl, inl, inr, ⊎_elim, arith}
+-- No route is without a regret, and none takes longer than another one by more than it.
+use Rattle.std.proofs.Common.{◌≡◌, ℕ, zero, suc, ◌+◌, ◌-◌, ◌<◌, ◌≤◌, ◌⊎◌, List, refl, inl, inr, ⊎_elim, arith}
 use Rattle.std.proofs.lemmas.Bool.{cases_lt}
 use Rattle.chart.specs.declared.leg.Leg.{Leg}
 use Rattle.chart.specs.Legs.{at}
-use Rattle.chart.specs.Regret.{Trip, Flies, time, LeastTime, Worst, EveryRouteHasARegret}
+use Rattle.chart.specs.Regret.{Trip, Flies, time, LeastTime, Worst, Choice, Regret, RegretIsNeverExceeded, EveryRouteHasARegret}
 use Rattle.regret.proofs.Worsts.{in_or, worst_choice_gives_regret}
 
 -- one of two times, by what was decided
@@ -51,3 +51,15 @@ every_route_has_a_regret t p flies none =
     least_not_absent t w p flies (λ b least.
     let h = least.least p flies in
     none (time w p - b) (worst_choice_gives_regret t p w b (time w p - b) flies (worst_is t.legs p) least (omega (arith, h))))
+
+-- were it exceeded, the route would lose more in that choice
+pub regret_is_never_exceeded : RegretIsNeverExceeded
+regret_is_never_exceeded t p x regret c chosen q flies =
+    ⊎_elim
+    (λ (lt : time c q + x < time c p). absurd (least_not_absent t c q flies (λ b least.
+      let h = least.least q flies in
+      let y : time c p ≡ b + (time c p - b) = omega (arith, lt, h) in
+      let m = regret.most c (time c p - b) chosen (record { best = b; least = least; over = y }) in
+      omega (arith, lt, h, m))))
+    (λ (le : time c p ≤ time c q + x). le)
+    (cases_lt (time c q + x) (time c p))

@@ -13,7 +13,7 @@ use Rattle.plan.specs.Amendments.{changed_leg, restores}
 use Rattle.plan.specs.Ledgers.{Ledger, grounds, entered, struck, ledger_by, ledger_after}
 use Rattle.runs.specs.declared.calls.Call.{Call}
 use Rattle.runs.specs.declared.calls.Call.TheVariants.{Amend, Route, Regret, Floor, Quickest, Level, Status}
-use Rattle.runs.specs.Histories.{step, after, granted, granted_by, granted_now, made, Keeps}
+use Rattle.runs.specs.Histories.{step, after, granted, granted_by, granted_now, made, Keeps, HistoriesJoin}
 
 -- a history of no calls
 keeps_none : (own : List Leg) (l : Ledger) → Keeps own l []
@@ -111,3 +111,8 @@ ledgers_keep own l (call ∷ calls) =
       destination = later.destination ∙ k.destination;
       once = λ o. later.once (k.once o);
     }
+
+pub histories_join : HistoriesJoin
+unfolding after
+histories_join own l [] more = refl
+histories_join own l (call ∷ first) more = histories_join own (step own l call) first more

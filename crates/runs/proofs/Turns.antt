@@ -201,7 +201,7 @@ made_more fixes legs c l calls call replies replies' memory memory' reply part t
     }
 
 -- the same, as a loop over all calls has it
-pub made_at : {C : Type 0} (fixes : C → ℕ) (legs : C → List Leg) (c : C) (l : Ledger) (all : List Call) (i : ℕ) (d : Call) (replies replies' : List Reply) (memory memory' : List ℕ) (reply : Reply) (part : List ℕ) (taken k p : ℕ) (plan plan' : Filed C)
+made_at : {C : Type 0} (fixes : C → ℕ) (legs : C → List Leg) (c : C) (l : Ledger) (all : List Call) (i : ℕ) (d : Call) (replies replies' : List Reply) (memory memory' : List ℕ) (reply : Reply) (part : List ℕ) (taken k p : ℕ) (plan plan' : Filed C)
     → SoFar fixes legs c l (take i all) replies replies' memory memory' taken plan
     → i < length all → p ≡ call_places (get_or all i d) → k ≡ p
     → i < length replies' → taken + p ≤ length memory'
@@ -218,6 +218,24 @@ made_at fixes legs c l all i d replies replies' memory memory' reply part taken 
     let m = made_more fixes legs c l (take i all) call replies replies' memory memory' reply part taken plan plan' so (omega (arith, room, n)) (omega (arith, space, e))
     (subst (λ a. Owed (fixes plan.chart) (ledger_of legs plan) call reply (take a (drop taken memory')) part) q owed) (long ∙ q) led rev ch in
     transport (λ j. SoFar fixes legs c l (sym (take_more all i d h) j) replies (slice_set replies' (n j) reply) memory (put_mid taken (sym q j) memory' part) (taken + sym e j) plan') m
+
+-- the same where the number of the call, that of its reply and the next free place are told
+pub made_as_told : {C : Type 0} (fixes : C → ℕ) (legs : C → List Leg) (c : C) (l : Ledger) (all : List Call) (i m j : ℕ) (d : Call) (replies replies' : List Reply) (memory memory' : List ℕ) (reply : Reply) (part : List ℕ) (taken k p next : ℕ) (plan plan' : Filed C)
+    → m ≡ i → j ≡ i → next ≡ taken + p
+    → SoFar fixes legs c l (take i all) replies replies' memory memory' taken plan
+    → i < length all → p ≡ call_places (get_or all i d) → k ≡ p
+    → i < length replies' → taken + p ≤ length memory'
+    → Owed (fixes plan.chart) (ledger_of legs plan) (get_or all m d) reply (take k (drop taken memory')) part
+    → length part ≡ k
+    → ledger_of legs plan' ≡ step (legs plan.chart) (ledger_of legs plan) (get_or all m d)
+    → plan'.revision ≡ plan.revision + count_by grants (reply ∷ [])
+    → plan'.chart ≡ plan.chart
+    → SoFar fixes legs c l (take (i + 1) all) replies (slice_set replies' j reply) memory (put_mid taken k memory' part) next plan'
+made_as_told fixes legs c l all i m j d replies replies' memory memory' reply part taken k p next plan plan' em ej en so h e f room space owed long led rev ch =
+    transport (λ x. SoFar fixes legs c l (take (i + 1) all) replies (slice_set replies' (sym ej x) reply) memory (put_mid taken k memory' part) (sym en x) plan')
+    (made_at fixes legs c l all i d replies replies' memory memory' reply part taken k p plan plan' so h e f room space
+    (subst (λ x. Owed (fixes plan.chart) (ledger_of legs plan) (get_or all x d) reply (take k (drop taken memory')) part) em owed) long
+    (subst (λ x. ledger_of legs plan' ≡ step (legs plan.chart) (ledger_of legs plan) (get_or all x d)) em led) rev ch)
 
 -- a call's part of the memory, and its length
 pub part_fits : (all : List Call) (i : ℕ) (d : Call) (memory : List ℕ) (taken p : ℕ) → i < length all → taken ≡ all_places (take i all) → p ≡ call_places (get_or all i d) → all_places all ≤ length memory → taken + p ≤ length memory
@@ -238,6 +256,7 @@ all_made fixes legs c l all i replies replies' memory memory' taken plan h f so 
       replied = s.replied;
       ledger = s.ledger;
       keeps = ledgers_keep (legs c) l all;
+      keeps_at_every_call = λ j. ledgers_keep (legs c) l (take j all);
       counted = s.counted;
       chart = s.chart;
       means_fixes = ap fixes s.chart;

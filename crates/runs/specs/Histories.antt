@@ -26,6 +26,10 @@ unfoldable pub after : List Leg → Ledger → List Call → Ledger
 after own l [] = l
 after own l (call ∷ calls) = after own (step own l call) calls
 
+-- a history in two parts is the history of both
+abbrev pub HistoriesJoin : Type 0
+HistoriesJoin = (own : List Leg) (l : Ledger) (first more : List Call) → after own l (first ++ more) ≡ after own (after own l first) more
+
 -- the amendment, where no ground applies to it
 abbrev pub granted_by : List AmendRefusal → Amendment → List Amendment
 granted_by [] amendment = amendment ∷ []

@@ -58,6 +58,7 @@ pub record Lawful {C : Type 0} (fixes : C → ℕ) (legs : C → List Leg) (c : 
   pub replied : Replied (fixes c) (legs c) l calls replies replies' memory memory'
   pub ledger : ledger_of legs plan' ≡ after (legs c) l calls
   pub keeps : Keeps (legs c) l calls
+  pub keeps_at_every_call : (i : ℕ) → Keeps (legs c) l (take i calls)
   pub counted : plan'.revision ≡ l.revision + count_by grants (take (length calls) replies')
   pub chart : plan'.chart ≡ c
   pub means_fixes : fixes plan'.chart ≡ fixes c

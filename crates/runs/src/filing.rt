@@ -1,6 +1,7 @@
 // A draft that is filed and then runs its calls.
 ghost use Rattle.std.specs.Prelude.{◌≡◌, length, MatchResult, IfOk, OnErr};
 ghost use Rattle.plan.specs.Ledgers.{at_filing};
+ghost use Rattle.runs.specs.Histories.{after};
 ghost use Rattle.runs.specs.Law.{RunOwes, Lawful, FromFiling};
 
 use super::calls::Call;
@@ -28,6 +29,7 @@ pub fn file_and_run<C: Chart>(
 ) -> Result<Filed<C>, NotRun<C>>
     ensures law { MatchResult result (λ plan. Lawful C.fixes C.legs draft.chart (at_filing (C.legs draft.chart) draft.ends) calls.now replies.old replies.new memory.old memory.new plan) (λ e. (e.draft ≡ draft) × RunOwes calls.now (length replies.old) (length memory.old) e.refusal) }
     ensures from_filing { IfOk result (λ plan. FromFiling C.legs draft.chart draft.ends calls.now plan) }
+    ensures as_a_chart { IfOk result (λ plan. (⟦<Filed<C> as Chart>⟧.fixes plan ≡ C.fixes draft.chart) × (⟦<Filed<C> as Chart>⟧.legs plan ≡ (after (C.legs draft.chart) (at_filing (C.legs draft.chart) draft.ends) calls.now).legs)) }
     ensures refused { OnErr result ((replies.new ≡ replies.old) × (memory.new ≡ memory.old)) }
 {
     if let Err(refusal) = fit(calls, replies.len(), memory.len()) {

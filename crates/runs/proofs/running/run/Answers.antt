@@ -1,6 +1,7 @@
 use Rattle.std.proofs.Common.{◌+◌, ◌≤◌, length, refl, arith}
 use Rattle.plan.specs.Plans.{ledger_of}
-use Rattle.runs.proofs.Turns.{none_made, made_at, part_fits, part_long, all_made}
+use Rattle.runs.proofs.Keeping.{histories_join}
+use Rattle.runs.proofs.Turns.{none_made, made_as_told, part_fits, part_long, all_made}
 use Rattle.runs.proofs.running.run.Goals as goal
 use Rattle.runs.proofs.running.run.Goals.{After-places-places}
 
@@ -13,7 +14,8 @@ fits g c = part_fits c.args.calls.now c.loop-i.i _ c.loop-i.memory c.loop-i.take
 
 pub loop-i-preserved : goal.loop-i-preserved
 loop-i-preserved g c =
-    made_at g.C.Chart.fixes g.C.Chart.legs c.args.plan.now.chart (ledger_of g.C.Chart.legs c.args.plan.now) c.args.calls.now c.loop-i.i _ c.args.replies.now c.loop-i.replies c.args.memory.now c.loop-i.memory c.make.result c.make.new.part c.loop-i.taken _ c.places-places.result c.loop-i.plan c.make.new.plan
+    made_as_told g.C.Chart.fixes g.C.Chart.legs c.args.plan.now.chart (ledger_of g.C.Chart.legs c.args.plan.now) c.args.calls.now c.loop-i.i _ _ _ c.args.replies.now c.loop-i.replies c.args.memory.now c.loop-i.memory c.make.result c.make.new.part c.loop-i.taken _ c.places-places.result _ c.loop-i.plan c.make.new.plan
+    (omega arith) (omega arith) (omega arith)
     c.loop-i.invariant c.loop-i-test.true c.places-places.ensures (omega arith)
     (omega (arith, c.loop-i.auto.replies, c.in_ok-fit.ensures.enough_replies, c.loop-i-test.true))
     (fits g (goal.at.loop-i-preserved g c).After-places-places)
@@ -23,3 +25,9 @@ loop-i-preserved g c =
 
 pub returns-clause-law : goal.returns-clause-law
 returns-clause-law g c = all_made g.C.Chart.fixes g.C.Chart.legs c.args.plan.now.chart (ledger_of g.C.Chart.legs c.args.plan.now) c.args.calls.now c.loop-i.i c.args.replies.now c.loop-i.replies c.args.memory.now c.loop-i.memory c.loop-i.taken c.loop-i.plan c.loop-i-test.false c.in_ok-fit.ensures c.loop-i.invariant
+
+pub returns-in_err-fit-clause-histories_join : goal.returns-in_err-fit-clause-histories_join
+returns-in_err-fit-clause-histories_join g c = histories_join
+
+pub returns-clause-histories_join : goal.returns-clause-histories_join
+returns-clause-histories_join g c = histories_join
