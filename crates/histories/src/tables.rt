@@ -1,0 +1,55 @@
+// Histories of plans on tables.
+use super::charts::{DENSE, FOUR_FIXES, PARALLEL, SIX_FIXES, drawn_rows, rows_of};
+use super::histories::show_history;
+use super::random::Random;
+use anyhow::bail;
+use chart::ends::Ends;
+use chart::refusals::Refusal;
+use chart::row::Row;
+use chart::table::Table;
+
+// A history on the table of these rows.
+fn show_table(
+    rt: &HostRuntime,
+    name: &str,
+    fixes: u16,
+    ends: Option<Ends>,
+    rows: &[Row],
+    random: &mut Random,
+) -> anyhow::Result<()> {
+    match Table::of(fixes, rows) {
+        Ok(table) => show_history(rt, name, table, fixes, ends, rows, random),
+        Err(refusal) => bail!("{name}: table refused {}", refusal.number()),
+    }
+}
+
+// Histories on charts that are given.
+pub fn show_tables(rt: &HostRuntime) -> anyhow::Result<()> {
+    let heap = rt.alloc();
+    let random = &mut Random::new(1);
+    let four = rows_of(heap, &FOUR_FIXES)?;
+    let parallel = rows_of(heap, &PARALLEL)?;
+    let dense = rows_of(heap, &DENSE)?;
+    let six = rows_of(heap, &SIX_FIXES)?;
+    let across = Some(Ends { from: 1, to: 3 });
+    let back = Some(Ends { from: 2, to: 1 });
+    show_table(rt, "four fixes", 4, None, &four, random)?;
+    show_table(rt, "four fixes, 1 to 3", 4, across, &four, random)?;
+    show_table(rt, "parallel legs", 4, None, &parallel, random)?;
+    show_table(rt, "dense", 5, None, &dense, random)?;
+    show_table(rt, "dense, 2 to 1", 5, back, &dense, random)?;
+    show_table(rt, "six fixes", 6, None, &six, random)
+}
+
+// Histories on charts that are drawn.
+pub fn show_drawn(rt: &HostRuntime) -> anyhow::Result<()> {
+    for seed in 1..=6u16 {
+        let random = &mut Random::new(u64::from(seed));
+        let fixes = random.small(3).saturating_add(4);
+        let legs = random.small(3).saturating_add(7);
+        let rows = drawn_rows(rt.alloc(), random, fixes, legs)?;
+        let name = format!(in rt.alloc(); "drawn {seed}, {fixes} fixes, {legs} legs")?;
+        show_table(rt, name.as_str(), fixes, None, &rows, random)?;
+    }
+    Ok(())
+}
