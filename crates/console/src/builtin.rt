@@ -1,11 +1,10 @@
-// The built-in task; and a longer one, which begins with a script over the files that the program carries, and goes on with
-// routes on the chart of one of them.
+// The built-in task: a script over the files that the program carries, routes on the chart of one of them, and tables and lattices.
 use super::carried::{CarriedFiles, FOUR_FIXES};
 use super::file_routes::show_file;
 use super::grids::show_lattices;
 use super::scripts::answer;
 use super::session::Session;
-use super::tables::{show_changed_tables, show_tables};
+use super::tables::show_changed_tables;
 
 const SCRIPT: [&str; 11] = [
     "name 0",
@@ -22,12 +21,6 @@ const SCRIPT: [&str; 11] = [
 ];
 
 pub fn show_task(rt: &HostRuntime) -> anyhow::Result<()> {
-    show_tables(rt)?;
-    show_lattices(rt)?;
-    Ok(())
-}
-
-pub fn show_carried(rt: &HostRuntime) -> anyhow::Result<()> {
     let mut session = Session::new(rt.alloc(), CarriedFiles);
     for line in SCRIPT {
         println!(rt; "> {line}")?;

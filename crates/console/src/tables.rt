@@ -1,7 +1,6 @@
-// The four-fix chart as a table, with legs closed too, and tables that are refused.
+// The four-fix chart as a table with legs closed, and tables that are refused.
 use super::replies::{show_chart, show_refusal};
-use super::routes::{show_four_fixes, show_route};
-use chart::limits::MAX_FIXES;
+use super::routes::show_route;
 use chart::row::{Row, Standing};
 use chart::table::Table;
 use std::{io, mem};
@@ -50,18 +49,6 @@ fn show_closed(rt: &HostRuntime, legs: &[usize]) -> io::Result<()> {
     show_on_table(rt, &rows, 4, |table| show_route(rt, table))
 }
 
-pub fn show_tables(rt: &HostRuntime) -> io::Result<()> {
-    let rows = four_fix_rows();
-    show_table(rt, &rows, 4)?;
-    show_on_table(rt, &rows, 4, |table| {
-        let mut memory = [0u16; MAX_FIXES];
-        let _route = show_four_fixes(rt, table, &mut memory)?;
-        Ok(())
-    })?;
-    show_changed_tables(rt)
-}
-
-// The four-fix chart with legs closed, and tables that are refused.
 pub fn show_changed_tables(rt: &HostRuntime) -> io::Result<()> {
     let mut rows = four_fix_rows();
     println!(rt; "# with leg 4 closed")?;

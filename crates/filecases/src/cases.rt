@@ -8,6 +8,7 @@ use std::alloc::AllocError;
 pub enum Spot {
     Chart,
     FirstFix,
+    SecondFix,
     MiddleFix,
     LastFix,
     FirstLeg,
@@ -54,6 +55,7 @@ impl Case {
         match self.spot {
             Spot::Chart => 0,
             Spot::FirstFix => 1,
+            Spot::SecondFix => 2,
             Spot::MiddleFix => n / 2,
             Spot::LastFix => n,
             Spot::FirstLeg => n + 1,

@@ -31,6 +31,9 @@ const BODIES: [Spot; 3] = [Chart, MiddleFix, MiddleLeg];
 
 const FIXES: [Spot; 3] = [FirstFix, MiddleFix, LastFix];
 
+// Those whose name a fix before may have.
+const LATER_FIXES: [Spot; 3] = [SecondFix, MiddleFix, LastFix];
+
 const LEGS: [Spot; 3] = [FirstLeg, MiddleLeg, LastLeg];
 
 // A smallest file byte by byte, the same without its last byte, and with one name twice. Its records stand at 0, 5, 10 and 15, as
@@ -86,8 +89,8 @@ static GROUPS: [Group; 54] = [
     Group(BadName, &BOTH, &FIXES, LastSign(b'[')),
     // The name of the fix before, and that of one of the first eight.
     Group(NameUsed, &[LEAST], &[LastFix], At(4, b"0")),
-    Group(NameUsed, &BOTH, &[MiddleFix, LastFix], At(4, b"0")),
-    Group(NameUsed, &BOTH, &[MiddleFix, LastFix], At(3, b"A0")),
+    Group(NameUsed, &BOTH, &LATER_FIXES, At(4, b"0")),
+    Group(NameUsed, &BOTH, &LATER_FIXES, At(3, b"A0")),
     Group(NameUsed, &[LEAST], &[LastFix], TWICE),
     Group(BadFixes, &BOTH, &LEGS, At(2, &[200])),
     Group(BadFixes, &BOTH, &LEGS, At(3, &[200])),

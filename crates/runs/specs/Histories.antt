@@ -1,5 +1,6 @@
 -- What calls make of a plan's ledger, one after the other.
-use Rattle.std.specs.Prelude.{◌≡◌, ℕ, ◌+◌, ◌≤◌, List, [], ◌∷◌, ◌++◌, length, slice_set}
+use Rattle.std.specs.Prelude.{◌≡◌, ℕ, ◌+◌, List, [], ◌∷◌, ◌++◌, length, slice_set}
+use Rattle.std.specs.List.{sum_by}
 use Rattle.chart.specs.declared.leg.Leg.{Leg}
 use Rattle.chart.specs.Legs.{at}
 use Rattle.chart.specs.Routes.{Once}
@@ -7,7 +8,6 @@ use Rattle.plan.specs.declared.amendment.Amendment.{Amendment}
 use Rattle.plan.specs.declared.refusals.AmendRefusal.{AmendRefusal}
 use Rattle.plan.specs.Amendments.{changed_leg}
 use Rattle.plan.specs.Ledgers.{Ledger, grounds, ledger_after}
-use Rattle.plan.specs.Limits.{last_revision, max_amended}
 use Rattle.runs.specs.declared.calls.Call.{Call}
 use Rattle.runs.specs.declared.calls.Call.TheVariants.{Amend, Route, Regret, Floor, Quickest, Level, Status}
 
@@ -71,6 +71,5 @@ call_places Level = 0
 call_places Status = 0
 
 -- how many places some calls take together
-unfoldable pub all_places : List Call → ℕ
-all_places [] = 0
-all_places (call ∷ calls) = call_places call + all_places calls
+abbrev pub all_places : List Call → ℕ
+all_places calls = sum_by call_places calls

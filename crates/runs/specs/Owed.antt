@@ -1,12 +1,11 @@
 -- What each call owes on a ledger: what it says, and what the part of the memory that it is given then holds.
-use Rattle.std.specs.Prelude.{◌≡◌, ℕ, ◌+◌, ◌<◌, ◌≤◌, ◌⊎◌, List, [], ◌∷◌, length, take, drop, Some}
+use Rattle.std.specs.Prelude.{◌≡◌, ℕ, ◌+◌, ◌<◌, ◌≤◌, ◌⊎◌, List, [], ◌∷◌, length, take, drop}
 use Rattle.chart.specs.declared.flown.Flown.{Flown}
 use Rattle.chart.specs.Kinds.{level_rule}
 use Rattle.chart.specs.Quickest.{quickest_rule}
 use Rattle.chart.specs.Best.{Best}
 use Rattle.chart.specs.Regret.{Trip, Flies, Regret, LeastRegret}
-use Rattle.chart.specs.Floors.{Starts, Begins, NoneBegins, Floor}
-use Rattle.plan.specs.declared.amendment.Amendment.{Amendment}
+use Rattle.chart.specs.Floors.{Starts, NoneBegins, Floor}
 use Rattle.plan.specs.declared.refusals.AmendRefusal.{AmendRefusal}
 use Rattle.plan.specs.Refusals.{amend_number}
 use Rattle.plan.specs.Ledgers.{Ledger, grounds, trip_of}
@@ -22,7 +21,7 @@ NoRoute t = (q : List ℕ) → Flies t q → ⊥
 -- an amendment to which these grounds apply is refused with the number of the first, or granted with the next revision where
 -- there are none
 abbrev pub amend_said : List AmendRefusal → ℕ → Said
-amend_said [] revision = granted (revision + 1 ∷ [])
+amend_said [] revision = granted ((revision + 1) ∷ [])
 amend_said (first ∷ more) revision = refused (amend_number first)
 
 -- a route call on a chart of n fixes is refused with 15 where its part of the memory is short

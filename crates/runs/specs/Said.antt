@@ -1,6 +1,5 @@
 -- What a reply says: for each of its cases the values that it answers, or the number that it is refused with.
-use Rattle.std.specs.Prelude.{◌≡◌, ℕ, List, [], ◌∷◌, Ok, Err, Result}
-use Rattle.chart.specs.declared.flown.Flown.{Flown}
+use Rattle.std.specs.Prelude.{ℕ, List, [], ◌∷◌, Ok, Err}
 use Rattle.regret.specs.Answers.{regret_number}
 use Rattle.floor.specs.Answers.{floor_number}
 use Rattle.least.specs.Answers.{route_number}

@@ -1,8 +1,10 @@
 // One call of a run.
-ghost use Rattle.std.specs.Prelude.{◌≡◌};
+ghost use Rattle.std.specs.Prelude.{◌≡◌, ◌+◌, [], ◌∷◌};
+ghost use Rattle.std.specs.List.{count_by};
 ghost use Rattle.plan.specs.Plans.{ledger_of};
 ghost use Rattle.runs.specs.Histories.{step};
 ghost use Rattle.runs.specs.Owed.{Owed};
+ghost use Rattle.runs.specs.Law.{grants};
 
 use super::calls::Call;
 use super::replies::Reply;
@@ -13,6 +15,7 @@ use plan::filed::Filed;
 pub(crate) fn make<C: Chart>(plan: &mut Filed<C>, call: &Call<'_>, part: &mut [u16]) -> Reply
     ensures owed { Owed (C.fixes plan.old.chart) (ledger_of C.legs plan.old) call.now result part.old part.new }
     ensures ledger { ledger_of C.legs plan.new ≡ step (C.legs plan.old.chart) (ledger_of C.legs plan.old) call.now }
+    ensures counted { plan.new.revision ≡ plan.old.revision + count_by grants (result ∷ []) }
     ensures chart { plan.new.chart ≡ plan.old.chart }
 {
     match *call {

@@ -1,8 +1,7 @@
 // Runs of calls.
-ghost use Rattle.std.specs.Prelude.{◌≡◌, length, MatchBool, MatchResult};
+ghost use Rattle.std.specs.Prelude.{◌≡◌, length, MatchResult, OnErr};
 ghost use Rattle.plan.specs.Plans.{ledger_of};
-ghost use Rattle.runs.specs.Law.{Fits, RunOwes, Lawful, Unchanged};
-ghost use Rattle.runs.specs.Histories.{after, LedgersCount};
+ghost use Rattle.runs.specs.Law.{Fits, RunOwes, Lawful};
 
 use super::calls::Call;
 use super::making::make;
@@ -35,7 +34,8 @@ pub fn run<C: Chart>(
     replies: &mut [Reply],
     memory: &mut [u16],
 ) -> Result<(), RunRefusal>
-    ensures lawful { MatchResult result (λ _. Lawful (C.fixes plan.old.chart) (C.legs plan.old.chart) (ledger_of C.legs plan.old) calls.now replies.old replies.new memory.old memory.new) (λ e. RunOwes calls.now (length replies.old) (length memory.old) e) }
+    ensures law { MatchResult result (λ _. Lawful C.fixes C.legs plan.old.chart (ledger_of C.legs plan.old) calls.now replies.old replies.new memory.old memory.new plan.new) (λ e. RunOwes calls.now (length replies.old) (length memory.old) e) }
+    ensures refused { OnErr result ((plan.new ≡ plan.old) × (replies.new ≡ replies.old) × (memory.new ≡ memory.old)) }
 {
     fit(calls, replies.len(), memory.len())?;
     let mut taken = 0;

@@ -1,10 +1,13 @@
-use Rattle.std.proofs.Common.{◌≡◌, length, set, ap, ◌∙◌, arith}
+use Rattle.std.proofs.Common.{◌≡◌, length, drop, set, ap, ◌∙◌, arith}
+use Rattle.records.specs.Checks.{body, leg_in}
 use Rattle.reader.specs.Places.{legs_at}
 use Rattle.reader.proofs.Fillings.{filled_more, filled_all}
 use Rattle.reader.proofs.files.fill.Goals as goal
 
 pub loop-k-preserved : goal.loop-k-preserved
-loop-k-preserved c = filled_more c.args.file.now c.args.base c.loop-k.k _ c.loop-k.rows _ c.loop-k.invariant c.loop-k-test.true (ap (set c.loop-k.rows c.loop-k.k) c.leg_at.ensures)
+loop-k-preserved c =
+    filled_more c.args.file.now c.args.base c.loop-k.k _ c.loop-k.rows _ c.loop-k.invariant c.loop-k-test.true
+    (ap (set c.loop-k.rows c.loop-k.k) (c.leg_at.ensures ∙ ap (λ p. leg_in (body (drop p c.args.file.now))) (omega arith)))
 
 pub returns : goal.returns
 returns c =

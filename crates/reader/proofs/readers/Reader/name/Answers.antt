@@ -1,4 +1,4 @@
-use Rattle.std.proofs.Common.{◌≡◌, Some, get_or, drop, sym, ap, ◌∙◌, arith}
+use Rattle.std.proofs.Common.{◌≡◌, ◌<◌, Some, length, get_or, drop, sym, ap, ◌∙◌, arith}
 use Rattle.records.specs.Checks.{body, name_in}
 use Rattle.reader.specs.Readings.{names_of}
 use Rattle.reader.proofs.NamesAt.{names_length, name_nth, name_part}
@@ -12,10 +12,12 @@ returns c =
     let start = c.in_ok-start.start in
     let some : c.get.result ≡ Some start = grind arith in
     let found = rw (c.deref.ensures.0, some) at c.get.ensures.lookup in
-    let at_fix : start.now ≡ get_or r.starts.items c.args.fix 0 = found.4 (omega arith) 0 in
+    let nth = found.4 (omega arith) 0 in
+    let inside : c.args.fix < length r.starts.items = omega (arith, found.3.0) in
+    let at_fix : start.now ≡ get_or r.starts.items c.args.fix 0 = omega (arith, nth) in
     record {
-      there = omega (arith, names_length file r.starts.items, found.3.0);
-      text = c.name_at.ensures ∙ ap (λ p. name_in (body (drop p file))) at_fix ∙ sym (name_nth file r.starts.items c.args.fix found.3.0);
-      place = omega (arith, r.indexed c.args.fix found.3.0);
+      there = omega (arith, names_length file r.starts.items, inside);
+      text = c.name_at.ensures ∙ ap (λ p. name_in (body (drop p file))) at_fix ∙ sym (name_nth file r.starts.items c.args.fix inside);
+      place = omega (arith, r.indexed c.args.fix inside);
       part = rw c.name_at.ensures (name_part file start.now);
     }

@@ -1,8 +1,8 @@
-use Rattle.std.proofs.Common.{◌++◌, drop, sym, refl, ap, ◌∙◌, arith}
-use Rattle.std.proofs.lemmas.List.{length-take-le}
+use Rattle.std.proofs.Common.{◌++◌, drop, sym, ap, ◌∙◌, arith}
 use Rattle.reader.specs.Readings.{names_of}
 use Rattle.reader.specs.Places.{legs_at}
 use Rattle.reader.proofs.Carrying.{carried}
+use Rattle.reader.proofs.Fillings.{front_filled}
 use Rattle.reader.proofs.NamesAt.{names_length}
 use Rattle.reader.proofs.Stages.{legs_length}
 use Rattle.reader.proofs.readers.Reader.read_file.Goals as goal
@@ -10,7 +10,7 @@ use Rattle.reader.proofs.readers.Reader.read_file.Goals as goal
 pub returns-in_err-found-clause-reads_the_chart_or_tells_the_fault : goal.returns-in_err-found-clause-reads_the_chart_or_tells_the_fault
 returns-in_err-found-clause-reads_the_chart_or_tells_the_fault c =
     let h = c.in_err-found.ensures.reads in
-    carried c.from_residual.result _ _ c.from_residual.ensures.1 (h.0, h.1, refl, refl)
+    carried c.from_residual.result _ _ c.from_residual.ensures.1 (h.0, h.1, grind arith, grind arith)
 
 pub returns-clause-reads_the_chart_or_tells_the_fault : goal.returns-clause-reads_the_chart_or_tells_the_fault
 unfolding names_of
@@ -21,7 +21,6 @@ returns-clause-reads_the_chart_or_tells_the_fault c =
     let legs = legs_at file found.base found.counts.legs in
     let count = legs_length file found.base found.counts.legs in
     let names = names_length c.check_file.new.self.file.now found.starts.items in
-    let many = length-take-le found.counts.legs c.args.memory.now h.0.fits in
     let filled = rw c.check_file.ensures.same_file at c.fill.ensures in
     record {
       legs = legs;
@@ -29,6 +28,6 @@ returns-clause-reads_the_chart_or_tells_the_fault c =
       fixes = omega (arith, h.0.whole);
       count = omega (arith, count);
       room = omega (arith, count, h.0.fits);
-      filled = ap (λ rows. rows ++ drop found.counts.legs c.args.memory.now) (filled ∙ ap (legs_at file found.base) many) ∙ ap (λ k. legs ++ drop k c.args.memory.now) (sym count);
+      filled = front_filled file found.base c.args.memory.now filled (omega arith) h.0.fits ∙ ap (λ k. legs ++ drop k c.args.memory.now) (sym count);
       place = h.1;
     }

@@ -1,0 +1,3 @@
+pub mod Paying
+pub mod Keeping
+pub mod Turns
