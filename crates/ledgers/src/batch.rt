@@ -4,8 +4,10 @@ use super::said::Said;
 use chart::charts::Chart;
 use listing::listings::Listing;
 use plan::amendment::Amendment;
+use plan::draft::Draft;
 use plan::filed::Filed;
 use runs::calls::Call;
+use runs::filing::{NotRun, file_and_run};
 use runs::refusals::RunRefusal;
 use runs::replies::Reply;
 use runs::running::run;
@@ -90,17 +92,18 @@ impl<'a> Batch<'a> {
         }
     }
 
-    // Adds a route call that is given so many places.
+    // Adds a route call that is given so many places, and says what is owed to it.
     pub fn route(
         &mut self,
         fixes: u16,
         listing: &Listing,
         places: usize,
-    ) -> Result<(), AllocError> {
+    ) -> Result<Result<(usize, u32), u8>, AllocError> {
         let end = self.memory.len().saturating_add(places);
         let owed = self.route_owed(fixes, listing, places)?;
         self.memory.resize(end, MARK)?;
-        self.push(Call::Route { places }, Said::Route(owed))
+        self.push(Call::Route { places }, Said::Route(owed))?;
+        Ok(owed)
     }
 
     // Adds the regret and the floor of a list.
@@ -115,6 +118,23 @@ impl<'a> Batch<'a> {
         let quickest = listing.quickest(self.heap)?;
         self.push(Call::Quickest, Said::Quickest(quickest))?;
         self.push(Call::Level, Said::Level(listing.level()))
+    }
+
+    // Adds all questions on the legs as they stand: routes with too few, just enough and more than enough places, the best totals,
+    // the regret and the floor of each list, and the status. It says whether there is a route.
+    pub fn ask(&mut self, ledger: &Ledger, lists: &'a [Vec<u16>]) -> Result<bool, AllocError> {
+        let listing = ledger.listing(self.heap)?;
+        let fixes = ledger.fixes();
+        let enough = (fixes as usize).saturating_sub(1);
+        for places in [enough.saturating_sub(1), enough, enough.saturating_add(6)] {
+            let _owed = self.route(fixes, &listing, places)?;
+        }
+        self.best(&listing)?;
+        for list in lists {
+            self.list(&listing, list)?;
+        }
+        self.status(ledger)?;
+        Ok(listing.least().is_ok())
     }
 
     // Whether these replies are those owed, and marks beyond them.
@@ -159,11 +179,51 @@ impl<'a> Batch<'a> {
         )
     }
 
-    // Whether the run replies and writes what is owed, with more replies and places than it takes.
+    // Whether replies and memory are what is owed, and marks beyond it.
+    fn is_owed(&self, replies: &[Reply], memory: &[u16]) -> Result<bool, AllocError> {
+        Ok(self.are_owed(replies)? && self.holds_owed(memory))
+    }
+
+    // More replies than the calls take, and more places, all marked.
+    fn marked(&self) -> Result<(Vec<Reply>, Vec<u16>), AllocError> {
+        let replies = self.calls.len().saturating_add(BEYOND);
+        let places = self.memory.len().saturating_add(BEYOND);
+        Ok((
+            vec![in self.heap; MARKED; replies]?,
+            vec![in self.heap; MARK; places]?,
+        ))
+    }
+
+    // Whether the run replies and writes what is owed.
     pub fn is_answered<C: Chart>(&self, plan: &mut Filed<C>) -> Result<bool, AllocError> {
-        let mut replies = vec![in self.heap; MARKED; self.calls.len().saturating_add(BEYOND)]?;
-        let mut memory = vec![in self.heap; MARK; self.memory.len().saturating_add(BEYOND)]?;
+        let (mut replies, mut memory) = self.marked()?;
         let answer = run(plan, &self.calls, &mut replies, &mut memory);
-        Ok(answer.is_ok() && self.are_owed(&replies)? && self.holds_owed(&memory))
+        Ok(answer.is_ok() && self.is_owed(&replies, &memory)?)
+    }
+
+    // The draft as it comes back where it is not filed for want of a reply; none where replies and places are not left as they were.
+    fn given_back<C: Chart + Drop>(&self, draft: Draft<C>) -> Result<Option<Draft<C>>, AllocError> {
+        let few = self.calls.len().saturating_sub(1);
+        let mut replies = vec![in self.heap; MARKED; few]?;
+        let mut memory = vec![in self.heap; MARK; self.memory.len()]?;
+        match file_and_run(draft, &self.calls, &mut replies, &mut memory) {
+            Err(NotRun { draft, refusal }) => {
+                let is_left = are_marked_replies(&replies) && are_marked(&memory);
+                Ok((refusal == RunRefusal::FewReplies && is_left).then_some(draft))
+            }
+            Ok(_) => Ok(None),
+        }
+    }
+
+    // Files a draft and makes the calls at once, after it came back once. The plan; none where it did not answer what is owed.
+    pub fn filed<C: Chart + Drop>(&self, draft: Draft<C>) -> Result<Option<Filed<C>>, AllocError> {
+        let Some(draft) = self.given_back(draft)? else {
+            return Ok(None);
+        };
+        let (mut replies, mut memory) = self.marked()?;
+        match file_and_run(draft, &self.calls, &mut replies, &mut memory) {
+            Ok(plan) => Ok(self.is_owed(&replies, &memory)?.then_some(plan)),
+            Err(_) => Ok(None),
+        }
     }
 }
