@@ -2,7 +2,7 @@
 use super::charts::{FOUR_FIXES, rows_of};
 use super::histories::show_history;
 use super::random::Random;
-use anyhow::{bail, ensure};
+use anyhow::ensure;
 use chart::ends::Ends;
 use chart::refusals::Refusal;
 use chart::table::Table;
@@ -12,10 +12,7 @@ use plan::draft::Draft;
 pub fn show_ends(rt: &HostRuntime) -> anyhow::Result<()> {
     let heap = rt.alloc();
     let rows = rows_of(heap, &FOUR_FIXES)?;
-    let table = match Table::of(4, &rows) {
-        Ok(table) => table,
-        Err(refusal) => bail!("table refused {}", refusal.number()),
-    };
+    let table = Table::of(4, &rows)?;
     let mut draft = Draft::new(table);
     let mut answers = Vec::new(heap);
     for (from, to) in [(0, 4), (4, 0), (9, 9), (2, 2), (1, 2), (1, 4), (3, 3)] {

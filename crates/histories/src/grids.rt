@@ -1,10 +1,8 @@
 // Histories of plans on lattices.
 use super::histories::show_history;
 use super::random::Random;
-use anyhow::bail;
 use chart::ends::Ends;
 use chart::lattice::Lattice;
-use chart::refusals::Refusal;
 use chart::row::{Row, Standing};
 use chart::step::{Interval, Step};
 use std::alloc::{AllocError, Global};
@@ -77,10 +75,8 @@ fn show_grid(
     let fixes = rows.saturating_mul(columns);
     let (from, to) = (ends.from, ends.to);
     let name = format!(in heap; "lattice of {rows} rows and {columns} columns, {from} to {to}")?;
-    match Lattice::new(rows, columns, TOP, &all) {
-        Ok(lattice) => { show_history(rt, name.as_str(), lattice, fixes, Some(ends), &own, random) }
-        Err(refusal) => bail!("{name}: refused {}", refusal.number()),
-    }
+    let lattice = Lattice::new(rows, columns, TOP, &all)?;
+    show_history(rt, name.as_str(), lattice, fixes, Some(ends), &own, random)
 }
 
 pub fn show_grids(rt: &HostRuntime) -> anyhow::Result<()> {

@@ -4,6 +4,7 @@
 
 mod charts;
 mod ends;
+mod four;
 mod full;
 mod grids;
 mod histories;
@@ -17,6 +18,7 @@ mod tally;
 mod tries;
 
 use ends::show_ends;
+use four::show_four;
 use full::show_full;
 use grids::show_grids;
 use last::show_last;
@@ -24,6 +26,7 @@ use levels::show_levels;
 use tables::{show_drawn, show_tables};
 
 fn main(rt: HostRuntime) -> anyhow::Result<()> {
+    show_four(&rt)?;
     show_tables(&rt)?;
     show_drawn(&rt)?;
     show_grids(&rt)?;

@@ -1,6 +1,7 @@
 // A filed plan and the ledger that is kept beside it.
 use super::random::Random;
 use super::tally::Tally;
+use anyhow::{bail, ensure};
 use chart::charts::Chart;
 use chart::ends::Ends;
 use chart::row::Row;
@@ -11,7 +12,7 @@ use plan::filed::Filed;
 use std::alloc::{AllocError, Global};
 
 // How many amendments stand between questions.
-const BETWEEN: usize = 3;
+const BETWEEN: usize = 4;
 
 #[derive(Drop)]
 pub struct Pair<C> {
@@ -20,49 +21,30 @@ pub struct Pair<C> {
 }
 
 impl<C: Chart + Drop> Pair<C> {
-    // Files a plan on a chart of so many fixes and of these legs, between the ends given, or the first and the last fix.
+    // Files a plan on a chart of so many fixes and of these legs, between the ends given, or the first and the last fix. It is asked in
+    // the call that files it.
     pub fn file(
         heap: Global,
         chart: C,
         fixes: u16,
         ends: Option<Ends>,
         own: &[Row],
-    ) -> Result<Pair<C>, AllocError> {
+    ) -> anyhow::Result<Pair<C>> {
         let mut draft = Draft::new(chart);
         if let Some(ends) = ends {
-            let _ = draft.ends(ends.from, ends.to);
+            ensure!(draft.ends(ends.from, ends.to).is_ok(), "differs: ends");
         }
         let whole = Ends {
             from: 0,
             to: fixes.saturating_sub(1),
         };
         let ledger = Ledger::at_filing(heap, fixes, ends.unwrap_or(whole), own)?;
-        Ok(Pair {
-            plan: draft.file(),
-            ledger,
-        })
-    }
-
-    // Adds to a batch all questions on the legs as they stand: routes with too few, just enough and more than enough places, the
-    // best totals, and the regret and the floor of each list.
-    pub fn ask<'a>(
-        &self,
-        heap: Global,
-        batch: &mut Batch<'a>,
-        lists: &'a [Vec<u16>],
-    ) -> Result<bool, AllocError> {
-        let listing = self.ledger.listing(heap)?;
-        let fixes = self.ledger.fixes();
-        let enough = (fixes as usize).saturating_sub(1);
-        for places in [enough.saturating_sub(1), enough, enough.saturating_add(6)] {
-            batch.route(fixes, &listing, places)?;
+        let mut batch = Batch::new(heap);
+        batch.ask(&ledger, &[])?;
+        match batch.filed(draft)? {
+            Some(plan) => Ok(Pair { plan, ledger }),
+            None => bail!("differs: filing"),
         }
-        batch.best(&listing)?;
-        for list in lists {
-            batch.list(&listing, list)?;
-        }
-        batch.status(&self.ledger)?;
-        Ok(listing.least().is_ok())
     }
 
     // Whether the plan answers the batch as is owed, and then has the ledger's legs. The run is first tried with too few replies and
@@ -85,14 +67,14 @@ impl<C: Chart + Drop> Pair<C> {
     ) -> Result<bool, AllocError> {
         let mut batch = Batch::new(heap);
         for _ in 0..2 {
-            tally.asked(self.ask(heap, &mut batch, lists)?);
+            tally.asked(batch.ask(&self.ledger, lists)?);
             for _ in 0..BETWEEN {
                 let amendment = random.amendment(&self.ledger);
                 tally.amended(batch.amend(&mut self.ledger, amendment)?)?;
                 batch.status(&self.ledger)?;
             }
         }
-        tally.asked(self.ask(heap, &mut batch, lists)?);
+        tally.asked(batch.ask(&self.ledger, lists)?);
         self.is_as_owed(&batch)
     }
 

@@ -66,9 +66,9 @@ impl Random {
 
     fn change(&mut self) -> Change {
         match self.below(20) {
-            0..6 => Change::Close,
-            6..8 => Change::Times(self.bad_times()),
-            8..14 => Change::Times(self.times()),
+            0..4 => Change::Close,
+            4..6 => Change::Times(self.bad_times()),
+            6..13 => Change::Times(self.times()),
             _ => Change::Restore,
         }
     }

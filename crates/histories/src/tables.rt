@@ -2,9 +2,7 @@
 use super::charts::{DENSE, FOUR_FIXES, PARALLEL, SIX_FIXES, drawn_rows, rows_of};
 use super::histories::show_history;
 use super::random::Random;
-use anyhow::bail;
 use chart::ends::Ends;
-use chart::refusals::Refusal;
 use chart::row::Row;
 use chart::table::Table;
 
@@ -17,10 +15,7 @@ fn show_table(
     rows: &[Row],
     random: &mut Random,
 ) -> anyhow::Result<()> {
-    match Table::of(fixes, rows) {
-        Ok(table) => show_history(rt, name, table, fixes, ends, rows, random),
-        Err(refusal) => bail!("{name}: table refused {}", refusal.number()),
-    }
+    show_history(rt, name, Table::of(fixes, rows)?, fixes, ends, rows, random)
 }
 
 // Histories on charts that are given.

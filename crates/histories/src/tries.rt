@@ -8,9 +8,9 @@ use std::alloc::{AllocError, Global};
 // A change of a leg, for the revision that the plan has, or for one that is so many behind it.
 #[derive(Clone, Copy)]
 pub struct Try {
-    pub behind: u16,
-    pub leg: u16,
-    pub change: Change,
+    behind: u16,
+    leg: u16,
+    change: Change,
 }
 
 impl Try {
@@ -51,17 +51,19 @@ impl<C: Chart + Drop> Pair<C> {
         Ok(owed)
     }
 
-    // Adds these amendments to a batch. It answers what is owed to each.
-    pub fn attempt_all(
+    // Adds these amendments to a batch, and all questions behind them. It answers what is owed to each amendment.
+    pub fn attempt_all<'a>(
         &mut self,
         heap: Global,
-        batch: &mut Batch<'_>,
+        batch: &mut Batch<'a>,
         given: &[Try],
+        lists: &'a [Vec<u16>],
     ) -> Result<Vec<Result<u16, u8>>, AllocError> {
         let mut owed = Vec::new(heap);
         for one in given {
             owed.push(self.attempt(batch, *one)?)?;
         }
+        batch.ask(&self.ledger, lists)?;
         Ok(owed)
     }
 }
