@@ -1,10 +1,15 @@
 // Histories of plans on tables.
 use super::charts::{DENSE, FOUR_FIXES, PARALLEL, SIX_FIXES, drawn_rows, rows_of};
-use super::histories::show_history;
+use super::histories::{show_history, tell};
 use super::random::Random;
+use super::tally::Tally;
+use anyhow::Context;
 use chart::ends::Ends;
 use chart::row::Row;
 use chart::table::Table;
+
+// How many charts are drawn.
+const DRAWN: u64 = 40;
 
 // A history on the table of these rows.
 fn show_table(
@@ -28,6 +33,7 @@ pub fn show_tables(rt: &HostRuntime) -> anyhow::Result<()> {
     let six = rows_of(heap, &SIX_FIXES)?;
     let across = Some(Ends { from: 1, to: 3 });
     let back = Some(Ends { from: 2, to: 1 });
+    show_table(rt, "two fixes, no legs", 2, None, &[], random)?;
     show_table(rt, "four fixes", 4, None, &four, random)?;
     show_table(rt, "four fixes, 1 to 3", 4, across, &four, random)?;
     show_table(rt, "parallel legs", 4, None, &parallel, random)?;
@@ -36,15 +42,20 @@ pub fn show_tables(rt: &HostRuntime) -> anyhow::Result<()> {
     show_table(rt, "six fixes", 6, None, &six, random)
 }
 
-// Histories on charts that are drawn.
+// Histories on charts that are drawn, of 4 to 6 fixes and 7 to 9 legs.
 pub fn show_drawn(rt: &HostRuntime) -> anyhow::Result<()> {
-    for seed in 1..=6u16 {
-        let random = &mut Random::new(u64::from(seed));
+    let heap = rt.alloc();
+    let mut tally = Tally::new(heap);
+    for seed in 0..DRAWN {
+        let random = &mut Random::new(seed);
         let fixes = random.small(3).saturating_add(4);
         let legs = random.small(3).saturating_add(7);
-        let rows = drawn_rows(rt.alloc(), random, fixes, legs)?;
-        let name = format!(in rt.alloc(); "drawn {seed}, {fixes} fixes, {legs} legs")?;
-        show_table(rt, name.as_str(), fixes, None, &rows, random)?;
+        let rows = drawn_rows(heap, random, fixes, legs)?;
+        let table = Table::of(fixes, &rows)?;
+        tell(heap, table, fixes, None, &rows, random, &mut tally).context(format_args!(
+            "drawn {seed}"
+        ))?;
     }
+    println!(rt; "{DRAWN} drawn charts: {tally}: as listed")?;
     Ok(())
 }

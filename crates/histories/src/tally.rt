@@ -52,18 +52,15 @@ impl fmt::Display for Tally {
     fn fmt<W: fmt::Write>(&self, f: &mut fmt::Formatter<W>) -> fmt::Result {
         let granted = self.granted;
         let refused = self.refused.len();
-        write!(f, "{granted} amendments granted, {refused} refused (")?;
+        write!(f, "{granted} amendments granted, {refused} refused")?;
         for number in [13, 8, 22, 21, 24, 23] {
             let count = self.count(number);
             if count > 0 {
-                write!(f, " {number}: {count}")?;
+                write!(f, ", {count} by {number}")?;
             }
         }
         let routes = self.routes;
         let none = self.none;
-        write!(
-            f,
-            " ), asked {routes} times with a route and {none} without"
-        )
+        write!(f, "; asked {routes} times with a route, {none} without")
     }
 }
