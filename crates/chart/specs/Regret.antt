@@ -65,6 +65,10 @@ pub record Worst (legs : List Leg) (p : List ℕ) (w : ℕ → ℕ) : Type 0 whe
 abbrev pub WorstChoiceGivesRegret : Type 0
 WorstChoiceGivesRegret = (t : Trip) (p : List ℕ) (w : ℕ → ℕ) (b x : ℕ) → Flies t p → Worst t.legs p w → LeastTime t w b → time w p ≡ b + x → Regret t p x
 
+-- no route is without a regret
+abbrev pub EveryRouteHasARegret : Type 0
+EveryRouteHasARegret = (t : Trip) (p : List ℕ) → Flies t p → ((x : ℕ) → Regret t p x → ⊥) → ⊥
+
 -- a list has one regret at most
 abbrev pub RegretIsUnique : Type 0
 RegretIsUnique = (t : Trip) (p : List ℕ) (x y : ℕ) → Regret t p x → Regret t p y → x ≡ y

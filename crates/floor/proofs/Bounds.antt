@@ -1,13 +1,14 @@
 -- The floor of a chain is below the regret of every route that begins with it, is never negative, and is one number.
-use Rattle.std.proofs.Common.{◌≡◌, ℕ, zero, suc, ◌-◌, ◌<◌, ◌≤◌, ◌⊎◌, List, length, sym, refl, subst, inl, inr, ⊎_elim, arith}
+use Rattle.std.proofs.Common.{◌≡◌, ℕ, ◌-◌, ◌<◌, ◌≤◌, List, length, sym, subst, ⊎_elim, arith}
 use native.Mathlib.Decide.{dec_le}
-use Rattle.std.proofs.lemmas.Bool.{cases_eq, cases_lt}
+use Rattle.std.proofs.lemmas.Bool.{cases_eq}
 use Rattle.chart.specs.declared.leg.Leg.{Leg}
 use Rattle.chart.specs.Legs.{at}
 use Rattle.chart.specs.Routes.{In}
-use Rattle.chart.specs.Regret.{Trip, Flies, time, LeastTime, Worst}
+use Rattle.chart.specs.Regret.{Trip, Flies, time, LeastTime}
 use Rattle.chart.specs.Floors.{Begins, highs, Shut, Braced, FloorIsBelowEveryRegret, FloorIsNeverNegative, FloorIsUnique}
 use Rattle.chart.proofs.Chains.{in_front}
+use Rattle.regret.proofs.Present.{worst_of, worst_is, least_not_absent}
 use Rattle.regret.proofs.Worsts.{in_or, legs_there, worst_choice_gives_regret, regret_is_unique, time_le, time_same}
 use Rattle.floor.proofs.Fixes.{enters_once, leaves_once}
 
@@ -17,45 +18,6 @@ shut_not_flown t ks p flies b k shut i =
     let j : In shut.rival p = subst (λ l. In shut.rival l) (sym b.1) (in_front ks b.0 shut.rival shut.inside) in
     let same : k ≡ shut.rival = ⊎_elim (λ e. leaves_once t.legs p t.from t.to flies.chain.leads flies.chain.once k shut.rival i j e) (λ e. enters_once t.legs p flies.chain.once.1 k shut.rival i j e) shut.shares in
     shut.outside (subst (λ n. In n ks) (sym same) shut.inside)
-
--- one of two times, by what was decided
-decided_time : {A : Type 0} → ℕ → ℕ → A ⊎ (A → ⊥) → ℕ
-decided_time h l (inl a) = h
-decided_time h l (inr n) = l
-
-decided_on : {A : Type 0} (h l : ℕ) (d : A ⊎ (A → ⊥)) → A → decided_time h l d ≡ h
-unfolding decided_time
-decided_on h l (inl a) x = refl
-decided_on h l (inr n) x = absurd (n x)
-
-decided_off : {A : Type 0} (h l : ℕ) (d : A ⊎ (A → ⊥)) → (A → ⊥) → decided_time h l d ≡ l
-unfolding decided_time
-decided_off h l (inl a) x = absurd (x a)
-decided_off h l (inr n) x = refl
-
--- the choice that is worst for a list
-worst_of : List Leg → List ℕ → ℕ → ℕ
-worst_of legs p k = decided_time (at legs k).high (at legs k).low (in_or k p)
-
-worst_is : (legs : List Leg) (p : List ℕ) → Worst legs p (worst_of legs p)
-unfolding worst_of
-worst_is legs p = record {
-  on = λ k i. decided_on (at legs k).high (at legs k).low (in_or k p) i;
-  off = λ k n. decided_off (at legs k).high (at legs k).low (in_or k p) n;
-}
-
--- there is not no least time
-least_not_absent : (t : Trip) (c : ℕ → ℕ) (p : List ℕ) → Flies t p → ((b : ℕ) → LeastTime t c b → ⊥) → ⊥
-least_not_absent t c p flies none = below (time c p) p flies (omega arith)
-  where
-    below : (n : ℕ) (r : List ℕ) → Flies t r → time c r ≤ n → ⊥
-    below zero r flown le = none (time c r) (record { by = r; flies = flown; takes = refl; least = λ q other. omega arith })
-    below (suc n) r flown le = none (time c r) (record {
-      by = r;
-      flies = flown;
-      takes = refl;
-      least = λ q other. ⊎_elim (λ lt. absurd (below n q other (omega arith))) (λ ge. ge) (cases_lt (time c q) (time c r));
-    })
 
 module _ (legs : List Leg) (ks : List ℕ) where
   -- what holds of the low and of the high time holds of the time that is taken, so far as numbers compare

@@ -1,3 +1,4 @@
 pub mod Walks
 pub mod Worsts
 pub mod Losing
+pub mod Present

@@ -1,6 +1,6 @@
 // The regret of a route. In the choice of times that is worst for it, its own legs take their high time and all others
 // their low.
-ghost use Rattle.chart.specs.Regret.{trip, WorstChoiceGivesRegret, RegretIsUnique};
+ghost use Rattle.chart.specs.Regret.{trip, WorstChoiceGivesRegret, EveryRouteHasARegret, RegretIsUnique};
 ghost use Rattle.search.specs.Snapshots.{legs_of};
 ghost use Rattle.regret.specs.Answers.{RegretAnswer};
 
@@ -26,6 +26,7 @@ pub fn regret_on(snapshot: &Snapshot, ends: Ends, list: &[u16]) -> Result<u32, R
 pub fn regret<C: Chart>(chart: &C, ends: Ends, list: &[u16]) -> Result<u32, RegretRefusal>
     ensures answers { RegretAnswer (trip (C.legs chart.now) ends.from ends.to) list.now result }
     ensures worst_choice { WorstChoiceGivesRegret }
+    ensures every_route_has_one { EveryRouteHasARegret }
     ensures unique { RegretIsUnique }
 {
     let snapshot = Snapshot::of(chart);

@@ -10,14 +10,14 @@ use Rattle.chart.specs.Routes.{In, Route}
 use Rattle.chart.specs.Kinds.{Rule, level_rule}
 use Rattle.chart.specs.Quickest.{quickest_rule}
 use Rattle.chart.specs.Best.{total, Best}
-use Rattle.chart.specs.Regret.{Trip, Flies, time, LeastTime, Regret, Beats, LeastRegret}
+use Rattle.chart.specs.Regret.{Trip, trip, Flies, time, LeastTime, Regret, Beats, LeastRegret}
 use Rattle.chart.specs.Floors.{Begins, highs, Nearest, Floor}
 use Rattle.chart.specs.Grid.{grid_leg}
 use Rattle.chart.specs.GridLaws.{length_grid, grid_at}
 use Rattle.regret.proofs.Worsts.{worst_choice_gives_regret, regret_is_unique}
-use Rattle.worked.specs.FourFix.{rows_with, legs_with, from_first_to_last, four_fix_trip, FourFixWorked, FourFixClosed, SmallLatticeWorked}
+use Rattle.worked.specs.FourFix.{four_fix_rows, FourFixWorked, FourFixClosed, SmallLatticeWorked}
 use Rattle.worked.proofs.Tests.{worst, worst_is_worst, braced, braced_is_braced}
-use Rattle.worked.proofs.FourLegs.{closed_open, leg_is, five_legs, joined, by_one, by_two, by_one_and_two, second_open, of_every_route}
+use Rattle.worked.proofs.FourLegs.{rows_with, legs_with, closed_open, leg_is, five_legs, joined, by_one, by_two, by_one_and_two, second_open, of_every_route}
 
 -- the times and levels of the legs, whatever their standings
 pub record Numbers (legs : List Leg) : Type 0 where
@@ -68,6 +68,9 @@ module _ (a b c d e : Standing) where
 
 abbrev open_legs : List Leg
 open_legs = legs_with Open Open Open Open Open
+
+abbrev four_fix_trip : Trip
+four_fix_trip = trip open_legs 0 3
 
 one : Flies four_fix_trip (0 ∷ 1 ∷ [])
 one = by_one Open Open Open Open Open refl refl
@@ -207,7 +210,8 @@ floor_2_3 =
     (least (braced from_of to_of open_legs (2 ∷ 3 ∷ [])) 600 (0 ∷ 1 ∷ []) one (omega arith) (omega arith) (omega arith) (omega arith))
     refl
 
-pub four_fix_worked : FourFixWorked
+pub four_fix_worked : FourFixWorked four_fix_rows
+unfolding legs_with
 four_fix_worked =
     let n = numbers Open Open Open Open Open in
     let sum : 0 + (at open_legs 0).high + (at open_legs 1).high ≡ 900 = omega arith in
@@ -232,7 +236,7 @@ four_fix_worked =
 
 -- with leg 4 closed
 abbrev less_4 : Trip
-less_4 = from_first_to_last Open Open Open Open Closed
+less_4 = trip (legs_with Open Open Open Open Closed) 0 3
 
 every_less_4 : (P : List ℕ → Type 0) → P (0 ∷ 1 ∷ []) → P (2 ∷ 3 ∷ []) → (q : List ℕ) → Flies less_4 q → P q
 every_less_4 P p r =
@@ -246,7 +250,8 @@ regret_less_4 p f x y q g takes one' two' over =
     (record { by = q; flies = g; takes = takes; least = every_less_4 (λ l. x ≤ time (worst less_4.legs p) l) one' two' })
     over
 
-pub four_fix_closed : FourFixClosed
+pub four_fix_closed : FourFixClosed four_fix_rows
+unfolding legs_with
 four_fix_closed =
     let n = numbers Open Open Open Open Closed in
     let first = by_one Open Open Open Open Closed refl refl in

@@ -3,13 +3,27 @@ use Rattle.std.proofs.Common.{◌≡◌, ℕ, zero, suc, ◌<◌, ◌≤◌, Lis
 use Rattle.chart.specs.declared.row.Row.{Row}
 use Rattle.chart.specs.declared.row.Standing.{Standing}
 use Rattle.chart.specs.declared.row.Standing.TheVariants.{Open, Closed}
+use Rattle.chart.specs.declared.leg.Leg.{Leg}
 use Rattle.chart.specs.Limits.{max_seconds, max_level}
 use Rattle.chart.specs.Legs.{at}
 use Rattle.chart.specs.Rows.{plain, row_at, Sound, AllSound}
 use Rattle.chart.specs.Routes.{Leaves, Route}
 use Rattle.chart.specs.ChartLaws.{plain_sound, length_legs, at_legs}
-use Rattle.worked.specs.FourFix.{row, rows_with, four_fix_rows, legs_with}
+use Rattle.worked.specs.FourFix.{row, four_fix_rows, legs_of}
 use Rattle.worked.proofs.FourRoutes.{Joined, three_ways}
+
+-- the rows of the chart, with a standing for each
+abbrev pub rows_with : (a b c d e : Standing) → List Row
+rows_with a b c d e =
+    row 0 1 300 400 390 a
+    ∷ row 1 3 300 500 350 b
+    ∷ row 0 2 200 600 410 c
+    ∷ row 2 3 250 450 370 d
+    ∷ row 1 2 50 100 330 e
+    ∷ []
+
+unfoldable pub legs_with : (a b c d e : Standing) → List Leg
+legs_with a b c d e = legs_of (rows_with a b c d e)
 
 -- a row is sound by comparisons of its numbers
 sound_row : (from to low high top : ℕ) (s : Standing) → from < 4 → to < 4 → (from ≡ to → ⊥) → low ≤ high → high ≤ max_seconds → top ≤ max_level → Sound 4 (row from to low high top s)

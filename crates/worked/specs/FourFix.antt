@@ -1,5 +1,5 @@
 -- A chart of four fixes and five legs, and a small lattice, with the answers that were worked out by hand.
-use Rattle.std.specs.Prelude.{◌≡◌, ℕ, List, [], ◌∷◌, map, length, Some}
+use Rattle.std.specs.Prelude.{◌≡◌, ℕ, List, [], ◌∷◌, map, length, slice_set, Some}
 use Rattle.chart.specs.declared.row.Row.{Row}
 use Rattle.chart.specs.declared.row.Standing.{Standing}
 use Rattle.chart.specs.declared.row.Standing.TheVariants.{Open, Closed}
@@ -16,49 +16,46 @@ use Rattle.chart.specs.Grid.{grid_legs}
 abbrev pub row : (from to low high top : ℕ) → Standing → Row
 row from to low high top standing = record { from = from; to = to; low = low; high = high; top = top; standing = standing }
 
--- the rows of the chart, with a standing for each
-abbrev pub rows_with : (a b c d e : Standing) → List Row
-rows_with a b c d e =
-    row 0 1 300 400 390 a
-    ∷ row 1 3 300 500 350 b
-    ∷ row 0 2 200 600 410 c
-    ∷ row 2 3 250 450 370 d
-    ∷ row 1 2 50 100 330 e
+-- the rows of the chart
+abbrev pub four_fix_rows : List Row
+four_fix_rows =
+    row 0 1 300 400 390 Open
+    ∷ row 1 3 300 500 350 Open
+    ∷ row 0 2 200 600 410 Open
+    ∷ row 2 3 250 450 370 Open
+    ∷ row 1 2 50 100 330 Open
     ∷ []
 
--- all of them open
-abbrev pub four_fix_rows : List Row
-four_fix_rows = rows_with Open Open Open Open Open
+-- rows, with that of the number k closed
+abbrev pub closed : List Row → ℕ → List Row
+closed rows k = slice_set rows k (record (row_at rows k) { standing = Closed })
 
-unfoldable pub legs_with : (a b c d e : Standing) → List Leg
-legs_with a b c d e = map leg_of (rows_with a b c d e)
+-- the legs that rows make
+abbrev pub legs_of : List Row → List Leg
+legs_of rows = map leg_of rows
 
--- from the first fix to the last
-abbrev pub from_first_to_last : (a b c d e : Standing) → Trip
-from_first_to_last a b c d e = trip (legs_with a b c d e) 0 3
+-- on these legs, from the first fix to the last
+abbrev pub from_first_to_last : List Row → Trip
+from_first_to_last rows = trip (legs_of rows) 0 3
 
--- with all legs open
-abbrev pub four_fix_trip : Trip
-four_fix_trip = from_first_to_last Open Open Open Open Open
-
--- from the first fix to the last with all legs open: the best totals, the regret of each route, the route of least regret and some floors
-pub record FourFixWorked : Type 0 where
-  pub quickest : BestTotal quickest_rule four_fix_trip.legs 0 3 (Some (record { seconds = 900; legs = 2 }))
-  pub level : BestTotal level_rule four_fix_trip.legs 0 3 (Some 370)
-  pub regret_by_one : Regret four_fix_trip (0 ∷ 1 ∷ []) 450
-  pub regret_by_one_and_two : Regret four_fix_trip (0 ∷ 4 ∷ 3 ∷ []) 300
-  pub regret_by_two : Regret four_fix_trip (2 ∷ 3 ∷ []) 450
-  pub route : LeastRegret four_fix_trip (0 ∷ 4 ∷ 3 ∷ []) 300
-  pub floor_of_none : Floor four_fix_trip [] 0
-  pub floor_of_leg_0 : Floor four_fix_trip (0 ∷ []) 250
-  pub floor_of_leg_2 : Floor four_fix_trip (2 ∷ []) 250
-  pub floor_of_legs_2_and_3 : Floor four_fix_trip (2 ∷ 3 ∷ []) 450
+-- from the first fix to the last: the best totals, the regret of each route, the route of least regret and some floors
+pub record FourFixWorked (rows : List Row) : Type 0 where
+  pub quickest : BestTotal quickest_rule (legs_of rows) 0 3 (Some (record { seconds = 900; legs = 2 }))
+  pub level : BestTotal level_rule (legs_of rows) 0 3 (Some 370)
+  pub regret_by_one : Regret (from_first_to_last rows) (0 ∷ 1 ∷ []) 450
+  pub regret_by_one_and_two : Regret (from_first_to_last rows) (0 ∷ 4 ∷ 3 ∷ []) 300
+  pub regret_by_two : Regret (from_first_to_last rows) (2 ∷ 3 ∷ []) 450
+  pub route : LeastRegret (from_first_to_last rows) (0 ∷ 4 ∷ 3 ∷ []) 300
+  pub floor_of_none : Floor (from_first_to_last rows) [] 0
+  pub floor_of_leg_0 : Floor (from_first_to_last rows) (0 ∷ []) 250
+  pub floor_of_leg_2 : Floor (from_first_to_last rows) (2 ∷ []) 250
+  pub floor_of_legs_2_and_3 : Floor (from_first_to_last rows) (2 ∷ 3 ∷ []) 450
 
 -- with leg 4 closed the two routes that are left have the same regret, and the one whose list comes first is the answer;
 -- with legs 1 and 3 closed there is no route
-pub record FourFixClosed : Type 0 where
-  pub without_leg_4 : LeastRegret (from_first_to_last Open Open Open Open Closed) (0 ∷ 1 ∷ []) 450
-  pub without_legs_1_and_3 : (q : List ℕ) → Flies (from_first_to_last Open Closed Open Closed Open) q → ⊥
+pub record FourFixClosed (rows : List Row) : Type 0 where
+  pub without_leg_4 : LeastRegret (from_first_to_last (closed rows 4)) (0 ∷ 1 ∷ []) 450
+  pub without_legs_1_and_3 : (q : List ℕ) → Flies (from_first_to_last (closed (closed rows 1) 3)) q → ⊥
 
 -- a lattice of 3 rows and 2 columns has 7 legs, and the leg 2 runs from the fix 1 to the fix 3
 abbrev pub SmallLatticeWorked : Type 0

@@ -1,2 +1,4 @@
 pub mod FourFix
+pub mod Amended
 pub mod TwoFix
+pub mod Worked

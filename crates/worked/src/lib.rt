@@ -3,8 +3,9 @@
 
 ghost use Rattle.std.specs.Prelude.{◌≡◌};
 ghost use Rattle.chart.specs.declared.row.Standing.TheVariants.{Open};
-ghost use Rattle.worked.specs.FourFix.{row, four_fix_rows, FourFixWorked, FourFixClosed, SmallLatticeWorked};
-ghost use Rattle.worked.specs.TwoFix.{two_fix_file, TwoFixFiles};
+ghost use Rattle.worked.specs.FourFix.{row, four_fix_rows};
+ghost use Rattle.worked.specs.TwoFix.{two_fix_file};
+ghost use Rattle.worked.specs.Worked.{Worked};
 
 use chart::row::{Row, Standing};
 
@@ -25,9 +26,7 @@ fn open(from: u16, to: u16, low: u32, high: u32, top: u16) -> Row
 // The rows of a chart with four fixes and five legs.
 pub fn four_fix_rows() -> [Row; 5]
     ensures rows { result ≡ four_fix_rows }
-    ensures worked { FourFixWorked }
-    ensures worked_with_closed_legs { FourFixClosed }
-    ensures small_lattice_worked { SmallLatticeWorked }
+    ensures worked { Worked result }
 {
     [
         open(0, 1, 300, 400, 390),
@@ -40,8 +39,7 @@ pub fn four_fix_rows() -> [Row; 5]
 
 // The file of a chart with the two fixes AA and BB and no legs.
 pub fn two_fix_file() -> [u8; 17]
-    ensures bytes { result ≡ two_fix_file }
-    ensures worked { TwoFixFiles }
+    ensures { result ≡ two_fix_file }
 {
     *b"CH\x02\x00\x00FX\x02AAFX\x02BBEN"
 }

@@ -1,5 +1,14 @@
-use Rattle.worked.proofs.FourAnswers.{four_fix_worked, four_fix_closed, small_lattice_worked}
+use Rattle.std.proofs.Common.{arith}
+use Rattle.worked.proofs.AllWorked.{is_row, same_rows, rows_worked}
 use Rattle.worked.proofs.four_fix_rows.Goals as goal
 
 pub returns : goal.returns
-returns c = record { rows = cc; worked = four_fix_worked; worked_with_closed_legs = four_fix_closed; small_lattice_worked = small_lattice_worked }
+returns c =
+    let same =
+    same_rows
+    (is_row c.open.ensures (omega arith) (omega arith) (omega arith) (omega arith) (omega arith))
+    (is_row c.open-2.ensures (omega arith) (omega arith) (omega arith) (omega arith) (omega arith))
+    (is_row c.open-3.ensures (omega arith) (omega arith) (omega arith) (omega arith) (omega arith))
+    (is_row c.open-4.ensures (omega arith) (omega arith) (omega arith) (omega arith) (omega arith))
+    (is_row c.open-5.ensures (omega arith) (omega arith) (omega arith) (omega arith) (omega arith)) in
+    record { rows = same; worked = rows_worked _ same }

@@ -1,6 +1,5 @@
 use Rattle.std.proofs.Common.{refl}
-use Rattle.worked.proofs.TwoFixed.{two_fixed}
 use Rattle.worked.proofs.two_fix_file.Goals as goal
 
 pub returns : goal.returns
-returns c = record { bytes = refl; worked = two_fixed }
+returns c = refl
