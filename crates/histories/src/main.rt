@@ -27,11 +27,11 @@ use tables::{show_drawn, show_tables};
 
 fn main(rt: HostRuntime) -> anyhow::Result<()> {
     show_four(&rt)?;
-    show_tables(&rt)?;
-    show_drawn(&rt)?;
-    show_grids(&rt)?;
-    show_levels(&rt)?;
     show_full(&rt)?;
     show_last(&rt)?;
-    show_ends(&rt)
+    show_ends(&rt)?;
+    show_levels(&rt)?;
+    show_tables(&rt)?;
+    show_grids(&rt)?;
+    show_drawn(&rt)
 }

@@ -9,7 +9,7 @@ use chart::row::Row;
 use chart::table::Table;
 
 // How many charts are drawn.
-const DRAWN: u64 = 40;
+const DRAWN: u64 = 30;
 
 // A history on the table of these rows.
 fn show_table(
