@@ -1,9 +1,9 @@
 // Chart files that the program carries.
-use super::session::Files;
+use sessions::files::Files;
 use std::alloc::AllocError;
 
 // A chart of four fixes and five legs.
-pub(crate) const FOUR_FIXES: &[u8] =
+const FOUR_FIXES: &[u8] =
     b"CH\x04\x00\x05FX\x05TEFFAFX\x04ESCRFX\x05RIDGEFX\x03SCPLG\x00\x01\x00\x00\x01\x2c\x00\x00\x01\x90\x01\x86LG\x01\x03\x00\x00\x01\x2c\x00\x00\x01\xf4\x01\x5eLG\x00\x02\x00\x00\x00\xc8\x00\x00\x02\x58\x01\x9aLG\x02\x03\x00\x00\x00\xfa\x00\x00\x01\xc2\x01\x72LG\x01\x02\x00\x00\x00\x32\x00\x00\x00\x64\x01\x4aEN";
 
 // Two fixes and no legs, without the last byte.
@@ -17,7 +17,7 @@ const REVERSED: &[u8] =
     b"CH\x02\x00\x01FX\x02AAFX\x02BBLG\x00\x01\x00\x00\x01\xf4\x00\x00\x01\x90\x01\x86EN";
 
 // The carried file of a name.
-pub fn carried(path: &str) -> Option<&'static [u8]> {
+fn carried(path: &str) -> Option<&'static [u8]> {
     match path {
         "four-fixes.chart" => Some(FOUR_FIXES),
         "cut.chart" => Some(CUT),
