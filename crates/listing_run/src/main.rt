@@ -2,9 +2,7 @@
 #![tactic(auto)]
 
 mod cases;
-mod chains;
 mod compare;
-mod measures;
 
 use cases::all_cases;
 use compare::show;

@@ -1,0 +1,99 @@
+// Small charts of open legs.
+use super::random::Random;
+use chart::row::{Row, Standing};
+use std::alloc::{AllocError, Global};
+
+// A leg: from, to, low, high, top.
+type Plain = (u16, u16, u32, u32, u16);
+
+pub const FOUR_FIXES: [Plain; 5] = [
+    (0, 1, 300, 400, 390),
+    (1, 3, 300, 500, 350),
+    (0, 2, 200, 600, 410),
+    (2, 3, 250, 450, 370),
+    (1, 2, 50, 100, 330),
+];
+
+pub const PARALLEL: [Plain; 8] = [
+    (0, 1, 10, 30, 300),
+    (0, 1, 10, 30, 310),
+    (1, 2, 10, 30, 300),
+    (1, 2, 20, 20, 320),
+    (2, 3, 10, 30, 300),
+    (2, 3, 0, 40, 310),
+    (0, 2, 20, 60, 330),
+    (1, 3, 20, 60, 290),
+];
+
+pub const DENSE: [Plain; 9] = [
+    (0, 1, 10, 60, 200),
+    (0, 2, 20, 40, 300),
+    (1, 2, 5, 30, 250),
+    (2, 1, 5, 10, 250),
+    (1, 3, 30, 70, 400),
+    (2, 3, 25, 90, 350),
+    (1, 4, 60, 100, 150),
+    (2, 4, 70, 80, 600),
+    (3, 4, 10, 40, 0),
+];
+
+pub const SIX_FIXES: [Plain; 9] = [
+    (0, 1, 100, 200, 300),
+    (0, 2, 120, 180, 310),
+    (1, 3, 80, 240, 320),
+    (2, 3, 90, 100, 330),
+    (3, 4, 10, 300, 340),
+    (3, 5, 200, 220, 350),
+    (4, 5, 50, 90, 360),
+    (1, 4, 150, 160, 370),
+    (4, 2, 5, 5, 380),
+];
+
+// The rows of these legs.
+pub fn rows_of(heap: Global, legs: &[Plain]) -> Result<Vec<Row>, AllocError> {
+    legs.iter()
+        .map(|leg| Row {
+            from: leg.0,
+            to: leg.1,
+            low: leg.2,
+            high: leg.3,
+            top: leg.4,
+            standing: Standing::Open,
+        })
+        .collect(heap)
+}
+
+// The two fixes of a leg that is drawn: of the first legs one goes on from each fix to the next.
+fn drawn_fixes(random: &mut Random, fixes: u16, k: u16) -> (u16, u16) {
+    let next = k.saturating_add(1);
+    if next < fixes {
+        return (k, next);
+    }
+    let from = random.small(fixes);
+    let by = random.small(fixes.saturating_sub(1)).saturating_add(1);
+    let to = from.saturating_add(by).checked_rem(fixes).unwrap_or(0);
+    (from, to)
+}
+
+// The rows of so many legs that are drawn.
+pub fn drawn_rows(
+    heap: Global,
+    random: &mut Random,
+    fixes: u16,
+    legs: u16,
+) -> Result<Vec<Row>, AllocError> {
+    let mut rows = Vec::new(heap);
+    for k in 0..legs {
+        let (from, to) = drawn_fixes(random, fixes, k);
+        let times = random.times();
+        rows.push(Row {
+            from,
+            to,
+            low: times.low,
+            high: times.high,
+            top: random.small(601),
+            standing: Standing::Open,
+        })?;
+    }
+    Ok(rows)
+}
