@@ -16,7 +16,7 @@ use runs::calls::Call;
 use runs::replies::Reply;
 use runs::running::run;
 use search::snapshot::Snapshot;
-use std::alloc::{AllocError, Global};
+use std::alloc::Global;
 
 // The call as a run takes it. A route takes `most` places where it says no number.
 fn as_run(call: &PlanCall, most: u16) -> Call<'_> {
