@@ -1,7 +1,7 @@
 -- What putting an amended leg in its place, and taking it away, does to the legs of a plan and to the numbers of the amended.
-use Rattle.std.proofs.Common.{◌≡◌, ℕ, ◌+◌, ◌<◌, ◌≤◌, not, Bool, true, false, cond, List, [], ◌∷◌, ◌++◌, ◌||◌, zero, suc, map, length, refl, sym, ap, ◌∙◌, subst, ⊎_elim, take, append-nil, drop_of_length-le, arith}
+use Rattle.std.proofs.Common.{◌≡◌, ℕ, ◌<◌, ◌≤◌, not, Bool, true, false, cond, List, [], ◌∷◌, ◌++◌, ◌||◌, zero, suc, length, refl, sym, ap, ◌∙◌, subst, ⊎_elim, take, append-nil, drop_of_length-le, arith}
 use Rattle.std.specs.Prelude.{MatchOption, Some, None, is_some, Option, ◌==◌, nat_lt, slice_set, slice_index_or, ◌≢◌}
-use Rattle.std.specs.List.{filter, list_any, position, position_or_len, refill}
+use Rattle.std.specs.List.{list_any, position_or_len, refill}
 use Rattle.std.proofs.lemmas.Bool.{cases_lt, eqb-true, eqb-false, eq-eqb, ne_eqb, ltb-true, ltb-false}
 use Rattle.std.proofs.lemmas.List.{set-set, set_comm, set-get_or, get_or-set_other, length-map, length-set, take_all}
 use Rattle.std.proofs.Math.ListN.{get_or-map}

@@ -1,6 +1,6 @@
 -- What an amendment answers and leaves, granted or refused.
-use Rattle.std.proofs.Common.{◌≡◌, ℕ, ◌+◌, ◌<◌, Bool, true, false, cond, List, [], length, refl, sym, ap, ◌∙◌, subst, arith}
-use Rattle.std.specs.Prelude.{Some, None, Option, Ok, Err, Result, slice_set}
+use Rattle.std.proofs.Common.{◌≡◌, ℕ, ◌+◌, true, false, cond, List, [], refl, sym, ap, ◌∙◌, arith}
+use Rattle.std.specs.Prelude.{Some, None, Option, Ok, Err, slice_set}
 use Rattle.chart.specs.declared.leg.Leg.{Leg}
 use Rattle.chart.specs.Legs.{at}
 use Rattle.plan.specs.declared.amended.Amended.{Amended}
@@ -13,7 +13,7 @@ use Rattle.plan.specs.Amendments.{changed_leg, restores}
 use Rattle.plan.specs.Ledgers.{Ledger, grounds, answer_by, ledger_by, entered, struck, renumbered, amended_by, amend_answer, ledger_after}
 use Rattle.plan.specs.Overlays.{over, overlay, numbers}
 use Rattle.plan.specs.Plans.{ledger_of}
-use Rattle.plan.specs.Places.{Same, FirstGround, Stands, standing, Amends}
+use Rattle.plan.specs.Places.{FirstGround, Stands, standing, Amends}
 use Rattle.plan.specs.PlanLaws.{overlay_keeps}
 use Rattle.plan.proofs.Entering.{overlay_put, overlay_without, numbers_put, numbers_without}
 use Rattle.plan.proofs.Judging.{own_again}

@@ -1,5 +1,5 @@
 -- What the calls of plans answer.
-use Rattle.std.specs.Prelude.{◌≡◌, ℕ, ◌<◌, ◌≤◌, ◌⊎◌, ◌≢◌, List, Some, None, Option, Ok, Err, Result}
+use Rattle.std.specs.Prelude.{◌≡◌, ℕ, ◌<◌, ◌≢◌, Some, None, Ok, Err, Result}
 use Rattle.chart.specs.Kinds.{Rule}
 use Rattle.chart.specs.Best.{BestTotal}
 use Rattle.chart.specs.Regret.{Trip}

@@ -1,5 +1,5 @@
 -- A plan's ledger: what its amendments come to. It starts at filing, and is then kept from what is asked of the plan alone.
-use Rattle.std.specs.Prelude.{◌≡◌, ℕ, ◌+◌, ◌==◌, ◌&&◌, ◌||◌, not, nat_lt, nat_le, Bool, false, cond, List, [], ◌∷◌, ◌++◌, length, slice_set, Ok, Err, Result}
+use Rattle.std.specs.Prelude.{ℕ, ◌+◌, ◌==◌, ◌&&◌, ◌||◌, not, nat_lt, nat_le, Bool, false, cond, List, [], ◌∷◌, ◌++◌, length, slice_set, Ok, Err, Result}
 use Rattle.std.specs.List.{filter, list_any}
 use Rattle.chart.specs.declared.leg.Leg.{Leg}
 use Rattle.chart.specs.declared.ends.Ends.{Ends}

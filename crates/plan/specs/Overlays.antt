@@ -1,5 +1,5 @@
 -- The legs of a plan: the chart's, with the amended ones in their places.
-use Rattle.std.specs.Prelude.{◌≡◌, ℕ, List, [], ◌∷◌, map, slice_set}
+use Rattle.std.specs.Prelude.{ℕ, List, [], ◌∷◌, map, slice_set}
 use Rattle.chart.specs.declared.leg.Leg.{Leg}
 use Rattle.chart.specs.Legs.{at}
 use Rattle.plan.specs.declared.amended.Amended.{Amended}

@@ -1,8 +1,8 @@
 -- The proof that a plan keeps the limits of charts. There is nothing here to believe: it stands among the definitions since the
 -- plan itself cites it.
 use Rattle.std.specs.Prelude.{◌≡◌, ℕ, ◌<◌, ◌≤◌, List, [], ◌∷◌, length, slice_set, ◌≢◌}
-use Rattle.std.proofs.Math.Path.{sym, ap}
-use Rattle.std.proofs.Common.{subst, ◌∙◌, refl, arith, inl, inr, ⊎_elim, get_or}
+use Rattle.std.proofs.Math.Path.{sym}
+use Rattle.std.proofs.Common.{subst, ◌∙◌, refl, arith, ⊎_elim, get_or}
 use Rattle.std.proofs.lemmas.Bool.{cases_eq, cases_lt}
 use Rattle.std.proofs.lemmas.List.{length-set, get_or-set_other, set_past}
 use Rattle.std.proofs.lemmas.Grind.{get_or-set_at}

@@ -1,5 +1,5 @@
 -- What a filed plan means: as a chart, and as a ledger.
-use Rattle.std.specs.Prelude.{ℕ, List, length}
+use Rattle.std.specs.Prelude.{List, length}
 use Rattle.chart.specs.declared.leg.Leg.{Leg}
 use Rattle.plan.specs.declared.filed.Filed.{Filed}
 use Rattle.plan.specs.declared.status.Status.{Status}

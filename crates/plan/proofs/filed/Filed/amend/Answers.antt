@@ -1,4 +1,4 @@
-use Rattle.std.proofs.Common.{◌+◌, Ok, refl, ap, ◌∙◌}
+use Rattle.std.proofs.Common.{Ok, ap, ◌∙◌, arith}
 use Rattle.std.proofs.lemmas.Result.{err_from_is_err_and}
 use Rattle.plan.specs.Plans.{ledger_of}
 use Rattle.plan.proofs.Granting.{refused_answer, refused_ledger, granted_answer, granted_plan}
@@ -14,10 +14,10 @@ returns-in_err-leg-clause-ledger g c = refused_ledger (ledger_of g.C.Chart.legs 
 
 pub returns-clause-answer : goal.returns-clause-answer
 returns-clause-answer g c =
-    ap (λ n. Ok (n + 1)) c.stand.ensures.revision
+    ap Ok (omega (arith, c.stand.ensures.revision))
     ∙ granted_answer (ledger_of g.C.Chart.legs c.args.self.now) c.args.amendment c.in_ok-leg.ensures.judged.free
 
 pub returns-clause-ledger : goal.returns-clause-ledger
 returns-clause-ledger g c =
-    granted_plan g.C.Chart.legs c.args.self.now c.stand.new.self c.args.amendment c.of-stands.result (c.stand.new.self.revision + 1)
-    c.in_ok-leg.ensures.judged.free (rw c.in_ok-leg.ensures.judged.is at c.of-stands.ensures) c.stand.ensures refl
+    granted_plan g.C.Chart.legs c.args.self.now c.stand.new.self c.args.amendment c.of-stands.result _
+    c.in_ok-leg.ensures.judged.free (rw c.in_ok-leg.ensures.judged.is at c.of-stands.ensures) c.stand.ensures (omega arith)

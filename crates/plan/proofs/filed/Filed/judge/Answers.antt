@@ -1,11 +1,11 @@
-use Rattle.std.proofs.Common.{◌≡◌, ◌<◌, true, false, not, List, [], length, refl, sym, ap, ◌∙◌, arith}
+use Rattle.std.proofs.Common.{◌≡◌, ◌<◌, not, [], length, sym, ap, ◌∙◌, arith}
 use Rattle.std.specs.Option.{is_some}
 use Rattle.std.proofs.lemmas.Bool.{eqb-true, eqb-false}
 use Rattle.std.proofs.lemmas.List.{length-map}
 use Rattle.chart.proofs.Numbers.{numbered_some}
-use Rattle.plan.specs.Ledgers.{mistimed, stands, grounds}
+use Rattle.plan.specs.Ledgers.{stands, grounds}
 use Rattle.plan.specs.Plans.{plan_legs, ledger_of}
-use Rattle.plan.specs.Limits.{last_revision, max_amended}
+use Rattle.plan.specs.Limits.{last_revision}
 use Rattle.plan.specs.Places.{Granted}
 use Rattle.plan.specs.declared.amended.Amended.{Amended}
 use Rattle.plan.proofs.Judging.{Due, no_such_leg, bad_times, at_last, at_another, not_amended, no_place, free_where_it_stands, free_where_there_is_room, timed_tells, below, past_the_legs}
@@ -22,8 +22,8 @@ due : (g : _) (c : After-place g) → Due (ledger_of g.C.Chart.legs c.args.self.
 due g c = record {
   there = there g (goal.at.After-place g c).After-is_timed;
   timed = timed_tells c.args.amendment.now.change c.is_timed.result c.is_timed.ensures ∙ ap not c.if-not-is_timed.false;
-  before_last = c.if-self-eq-LAST_REVISION.false;
-  this = c.if-amendment-self.false;
+  before_last = λ e. c.if-self-eq-LAST_REVISION.false (omega (arith, e));
+  this = omega (arith, c.if-amendment-self.false);
 }
 
 -- whether the leg stands amended
@@ -36,7 +36,7 @@ granted g c free =
     let s = numbered_some (plan_legs g.C.Chart.legs c.args.self.now) c.args.amendment.now.leg c.in-Some.leg (sym c.in-Some.is ∙ c.leg.ensures) in
     record {
       free = free;
-      before_last = below c.args.self.now.revision last_revision c.args.self.now.counted c.if-self-eq-LAST_REVISION.false;
+      before_last = below c.args.self.now.revision last_revision c.args.self.now.counted (λ e. c.if-self-eq-LAST_REVISION.false (omega (arith, e)));
       there = s.0;
       is = s.1;
     }
@@ -52,12 +52,12 @@ returns-then-not-is_timed-clause-judged g c =
 pub returns-then-self-eq-LAST_REVISION-clause-judged : goal.returns-then-self-eq-LAST_REVISION-clause-judged
 returns-then-self-eq-LAST_REVISION-clause-judged g c =
     at_last (ledger_of g.C.Chart.legs c.args.self.now) c.args.amendment.now (there g (goal.at.returns-then-self-eq-LAST_REVISION-clause-judged g c).After-is_timed)
-    (timed_tells c.args.amendment.now.change c.is_timed.result c.is_timed.ensures ∙ ap not c.if-not-is_timed.false) c.if-self-eq-LAST_REVISION.true
+    (timed_tells c.args.amendment.now.change c.is_timed.result c.is_timed.ensures ∙ ap not c.if-not-is_timed.false) (omega (arith, c.if-self-eq-LAST_REVISION.true))
 
 pub returns-then-amendment-self-clause-judged : goal.returns-then-amendment-self-clause-judged
 returns-then-amendment-self-clause-judged g c =
     at_another (ledger_of g.C.Chart.legs c.args.self.now) c.args.amendment.now (there g (goal.at.returns-then-amendment-self-clause-judged g c).After-is_timed)
-    (timed_tells c.args.amendment.now.change c.is_timed.result c.is_timed.ensures ∙ ap not c.if-not-is_timed.false) c.if-self-eq-LAST_REVISION.false c.if-amendment-self.true
+    (timed_tells c.args.amendment.now.change c.is_timed.result c.is_timed.ensures ∙ ap not c.if-not-is_timed.false) (λ e. c.if-self-eq-LAST_REVISION.false (omega (arith, e))) c.if-amendment-self.true
 
 pub returns-then-is_some-clause-judged : goal.returns-then-is_some-clause-judged
 returns-then-is_some-clause-judged g c =
@@ -76,7 +76,7 @@ returns-then-is_full-clause-judged g c =
     let at = goal.at.returns-then-is_full-clause-judged g c in
     no_place (ledger_of g.C.Chart.legs c.args.self.now) c.args.amendment.now (due g at.After-place)
     (sym c.is_restore.ensures ∙ c.if-is_restore.false) (stood g at.After-is_some ∙ c.if-is_some.false)
-    (length-map c.args.self.now.amended.items (λ (a : Amended). a.number) ∙ eqb-true (length c.args.self.now.amended.items) max_amended (sym c.is_full.ensures.value ∙ c.if-is_full.true))
+    (length-map c.args.self.now.amended.items (λ (a : Amended). a.number) ∙ omega (arith, eqb-true (length c.args.self.now.amended.items) _ (sym c.is_full.ensures.value ∙ c.if-is_full.true)))
 
 pub returns-clause-judged : goal.returns-clause-judged
 returns-clause-judged g c =
@@ -84,4 +84,4 @@ returns-clause-judged g c =
     granted g at.After-place
     (free_where_there_is_room (ledger_of g.C.Chart.legs c.args.self.now) c.args.amendment.now (due g at.After-place)
     (sym c.is_restore.ensures ∙ c.if-is_restore.false)
-    (λ e. eqb-false (length c.args.self.now.amended.items) max_amended (sym c.is_full.ensures.value ∙ c.if-is_full.false) (sym (length-map c.args.self.now.amended.items (λ (a : Amended). a.number)) ∙ e)))
+    (λ e. eqb-false (length c.args.self.now.amended.items) _ (sym c.is_full.ensures.value ∙ c.if-is_full.false) (omega (arith, e, length-map c.args.self.now.amended.items (λ (a : Amended). a.number)))))
