@@ -1,4 +1,10 @@
 // Calls of filed plans.
+ghost use Rattle.std.specs.Prelude.{◌≡◌, length};
+ghost use Rattle.search.specs.Snapshots.{fixes_of, legs_of};
+ghost use Rattle.plan.specs.Plans.{ledger_of};
+ghost use Rattle.runs.specs.Histories.{call_places, step};
+ghost use Rattle.runs.specs.Owed.{Owed};
+
 use chart::routes::most_legs;
 use commands::orders::PlanCall;
 use plan::filed::Filed;
@@ -10,7 +16,7 @@ use runs::calls::Call;
 use runs::replies::Reply;
 use runs::running::run;
 use search::snapshot::Snapshot;
-use std::alloc::{AllocError, Global};
+use std::alloc::Global;
 
 // The call as a run takes it. A route takes `most` places where it says no number.
 fn as_run(call: &PlanCall, most: u16) -> Call<'_> {
@@ -49,7 +55,20 @@ fn answered<'a>(heap: Global, reply: Reply, memory: &[u16]) -> Result<Answer, St
     })
 }
 
-// Makes one call of a filed plan: a run of that call alone.
+// The reply of a filed plan to one call: that of a run of this call alone.
+#[tactic(auto, unfolding(runs::specs::Histories::after))]
+fn reply_to(plan: &mut Filed<Snapshot>, call: Call<'_>, memory: &mut [u16]) -> Reply
+    requires room { length memory.old ≡ call_places call }
+    ensures owed { Owed (fixes_of plan.old.chart) (ledger_of legs_of plan.old) call.entry result memory.old memory.new }
+    ensures ledger { ledger_of legs_of plan.new ≡ step (legs_of plan.old.chart) (ledger_of legs_of plan.old) call.entry }
+    ensures chart { plan.new.chart ≡ plan.old.chart }
+{
+    let mut replies = [Reply::Level(Err(BestRefusal::NoRoute))];
+    run(plan, &[call], &mut replies, memory).unwrap();
+    replies[0]
+}
+
+// Makes one call of a filed plan.
 pub(crate) fn ask<'a>(
     heap: Global,
     plan: &mut Filed<Snapshot>,
@@ -57,7 +76,6 @@ pub(crate) fn ask<'a>(
 ) -> Result<Answer, Stopped<'a>> {
     let call = as_run(call, most_legs(plan));
     let mut memory = vec![in heap; 0u16; call.places()]?;
-    let mut replies = [Reply::Level(Err(BestRefusal::NoRoute))];
-    run(plan, &[call], &mut replies, memory.as_mut_slice()).unwrap();
-    answered(heap, replies[0], memory.as_slice())
+    let reply = reply_to(plan, call, memory.as_mut_slice());
+    answered(heap, reply, memory.as_slice())
 }
