@@ -1,3 +1,4 @@
 pub mod Paying
 pub mod Keeping
 pub mod Turns
+pub mod Agreeing

@@ -36,7 +36,7 @@ after_more own l [] call = refl
 after_more own l (x ∷ calls) call = after_more own (step own l x) calls call
 
 -- and the places that it takes
-places_more : (calls : List Call) (call : Call) → all_places (calls ++ call ∷ []) ≡ all_places calls + call_places call
+pub places_more : (calls : List Call) (call : Call) → all_places (calls ++ call ∷ []) ≡ all_places calls + call_places call
 places_more calls call = let e = sum_by-append call_places calls (call ∷ []) in omega (arith, e)
 
 module _ {X : Type 0} where

@@ -14,6 +14,7 @@ use Rattle.runs.specs.declared.replies.Reply.TheVariants as reply
 use Rattle.runs.specs.declared.refusals.RunRefusal.{RunRefusal}
 use Rattle.runs.specs.declared.refusals.RunRefusal.TheVariants.{FewReplies, ShortMemory}
 use Rattle.runs.specs.Histories.{after, granted, made, Keeps, call_places, all_places}
+use Rattle.runs.specs.Said.{said, answered}
 use Rattle.runs.specs.Owed.{Owed}
 
 -- the part of the memory that a call is given, after the calls before it
@@ -71,3 +72,11 @@ pub record FromFiling {C : Type 0} (legs : C → List Leg) (c : C) (ends : Ends)
   pub has_legs : plan_legs legs plan' ≡ made (legs c) (legs c) (granted (legs c) (at_filing (legs c) ends) calls)
   pub once : Once (numbers plan'.amended.items)
   pub between : plan'.ends ≡ ends
+
+-- two runs of the same calls from the same ledger, replies and memory, that both keep the law, say the same to every call and leave the
+-- same memory
+abbrev pub RunsHaveOneOutcome : Type 0
+RunsHaveOneOutcome =
+    (n : ℕ) (own : List Leg) (l : Ledger) (calls : List Call) (replies replies' replies'' : List Reply) (memory memory' memory'' : List ℕ)
+    → length calls ≤ length replies → Replied n own l calls replies replies' memory memory' → Replied n own l calls replies replies'' memory memory''
+    → ((i : ℕ) (r r' : Reply) → i < length calls → slice_get replies' i ≡ Some r → slice_get replies'' i ≡ Some r' → (answered r ≡ answered r') × (said r ≡ said r')) × (memory' ≡ memory'')

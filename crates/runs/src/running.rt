@@ -2,7 +2,7 @@
 ghost use Rattle.std.specs.Prelude.{◌≡◌, length, MatchResult, OnOk, OnErr};
 ghost use Rattle.plan.specs.Plans.{ledger_of};
 ghost use Rattle.runs.specs.Histories.{after, HistoriesJoin};
-ghost use Rattle.runs.specs.Law.{Fits, RunOwes, Lawful};
+ghost use Rattle.runs.specs.Law.{Fits, RunOwes, Lawful, RunsHaveOneOutcome};
 
 use super::calls::Call;
 use super::making::make;
@@ -38,6 +38,7 @@ pub fn run<C: Chart>(
     ensures law { MatchResult result (λ _. Lawful C.fixes C.legs plan.old.chart (ledger_of C.legs plan.old) calls.now replies.old replies.new memory.old memory.new plan.new) (λ e. RunOwes calls.now (length replies.old) (length memory.old) e) }
     ensures as_a_chart { OnOk result ((⟦<Filed<C> as Chart>⟧.fixes plan.new ≡ C.fixes plan.old.chart) × (⟦<Filed<C> as Chart>⟧.legs plan.new ≡ (after (C.legs plan.old.chart) (ledger_of C.legs plan.old) calls.now).legs)) }
     ensures histories_join { HistoriesJoin }
+    ensures one_outcome { RunsHaveOneOutcome }
     ensures refused { OnErr result ((plan.new ≡ plan.old) × (replies.new ≡ replies.old) × (memory.new ≡ memory.old)) }
 {
     fit(calls, replies.len(), memory.len())?;

@@ -1,5 +1,6 @@
 use Rattle.std.proofs.Common.{◌+◌, ◌≤◌, length, refl, arith}
 use Rattle.plan.specs.Plans.{ledger_of}
+use Rattle.runs.proofs.Agreeing.{runs_have_one_outcome}
 use Rattle.runs.proofs.Keeping.{histories_join}
 use Rattle.runs.proofs.Turns.{none_made, made_as_told, part_fits, part_long, all_made}
 use Rattle.runs.proofs.running.run.Goals as goal
@@ -31,3 +32,9 @@ returns-in_err-fit-clause-histories_join g c = histories_join
 
 pub returns-clause-histories_join : goal.returns-clause-histories_join
 returns-clause-histories_join g c = histories_join
+
+pub returns-in_err-fit-clause-one_outcome : goal.returns-in_err-fit-clause-one_outcome
+returns-in_err-fit-clause-one_outcome g c = runs_have_one_outcome
+
+pub returns-clause-one_outcome : goal.returns-clause-one_outcome
+returns-clause-one_outcome g c = runs_have_one_outcome
