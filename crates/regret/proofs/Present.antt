@@ -57,9 +57,9 @@ pub regret_is_never_exceeded : RegretIsNeverExceeded
 regret_is_never_exceeded t p x regret c chosen q flies =
     ⊎_elim
     (λ (lt : time c q + x < time c p). absurd (least_not_absent t c q flies (λ b least.
-      let h = least.least q flies in
-      let y : time c p ≡ b + (time c p - b) = omega (arith, lt, h) in
-      let m = regret.most c (time c p - b) chosen (record { best = b; least = least; over = y }) in
-      omega (arith, lt, h, m))))
+    let h = least.least q flies in
+    let y : time c p ≡ b + (time c p - b) = omega (arith, lt, h) in
+    let m = regret.most c (time c p - b) chosen (record { best = b; least = least; over = y }) in
+    omega (arith, lt, h, m))))
     (λ (le : time c p ≤ time c q + x). le)
     (cases_lt (time c q + x) (time c p))
