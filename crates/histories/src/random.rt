@@ -10,8 +10,8 @@ pub struct Random {
 }
 
 impl Random {
-    pub fn new(seed: u64) -> Random {
-        Random { state: seed }
+    pub fn new(state: u64) -> Random {
+        Random { state }
     }
 
     // A number below `n`.

@@ -46,14 +46,14 @@ pub fn show_tables(rt: &HostRuntime) -> anyhow::Result<()> {
 pub fn show_drawn(rt: &HostRuntime) -> anyhow::Result<()> {
     let heap = rt.alloc();
     let mut tally = Tally::new(heap);
-    for seed in 0..DRAWN {
-        let random = &mut Random::new(seed);
+    for number in 0..DRAWN {
+        let random = &mut Random::new(number);
         let fixes = random.small(3).saturating_add(4);
         let legs = random.small(3).saturating_add(7);
         let rows = drawn_rows(heap, random, fixes, legs)?;
         let table = Table::of(fixes, &rows)?;
         tell(heap, table, fixes, None, &rows, random, &mut tally).context(format_args!(
-            "drawn {seed}"
+            "drawn {number}"
         ))?;
     }
     println!(rt; "{DRAWN} drawn charts: {tally}: as listed")?;

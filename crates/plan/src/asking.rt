@@ -26,14 +26,16 @@ use regret::regrets::regret;
 use search::best::best;
 
 impl<C: Chart> Filed<C> {
-    // Writes the route of least regret into the first places of the memory, as `least_regret` does.
+    // Writes the route of least regret into the first places of the memory, and answers its legs and its regret; later places keep what
+    // they held. It is refused where the memory has fewer places than the longest route could have legs, and then where there is no
+    // route; the memory is then what it was.
     pub fn route(&self, memory: &mut [u16]) -> Result<Found, RouteRefusal>
         ensures { RouteAnswer (trip_of (ledger_of C.legs self.now)) (C.fixes self.now.chart) memory.old result memory.new }
     {
         least_regret(self, self.ends, memory)
     }
 
-    // The regret of a list of legs; it is refused where the list is no route.
+    // The regret of a list of legs; it is refused where the list is no route of the plan.
     pub fn regret(&self, list: &[u16]) -> Result<u32, RegretRefusal>
         ensures { RegretAnswer (trip_of (ledger_of C.legs self.now)) list.now result }
     {
@@ -47,14 +49,14 @@ impl<C: Chart> Filed<C> {
         floor(self, self.ends, chain)
     }
 
-    // The fewest seconds at high times of any route, and then the fewest legs.
+    // The fewest seconds at high times of any route, and then the fewest legs; it is refused where there is no route.
     pub fn quickest(&self) -> Result<Flown, BestRefusal>
         ensures { BestAnswer quickest_rule (trip_of (ledger_of C.legs self.now)) result }
     {
         best(self, &Quickest, self.ends).ok_or(BestRefusal::NoRoute)
     }
 
-    // The highest level of any route.
+    // The highest level of any route; it is refused where there is no route.
     pub fn level(&self) -> Result<u16, BestRefusal>
         ensures { BestAnswer level_rule (trip_of (ledger_of C.legs self.now)) result }
     {

@@ -24,7 +24,7 @@ use Rattle.runs.specs.Said.{Said, granted, said, answered}
 use Rattle.runs.specs.Histories.{after, call_places, all_places}
 use Rattle.runs.specs.Law.{part_of, Replied, RunsHaveOneOutcome}
 use Rattle.runs.proofs.Turns.{places_more}
-use Rattle.runs.specs.Owed.{RouteThere, RouteOwed, RegretOwed, FloorOwed, QuickestOwed, LevelOwed, OwesOneAnswer}
+use Rattle.runs.specs.Owed.{RouteThere, RouteOwed, RegretOwed, FloorOwed, QuickestOwed, LevelOwed, Owes}
 
 -- two best totals are the same
 best_is_unique : {T : Type 0} (rule : Rule T) → Laws rule → (legs : List Leg) (s t : ℕ) (x y : T) → Best rule legs s t x → Best rule legs s t y → x ≡ y
@@ -90,7 +90,10 @@ module _ (n : ℕ) (t : Trip) (part part' part'' : List ℕ) (s s' : Said) (e : 
   route_once (inr (inr a)) (inr (inl b)) = absurd (b.none (take a.legs part') a.least.flies)
   route_once (inr (inr a)) (inr (inr b)) = there_once a b
 
-pub owes_one_answer : OwesOneAnswer
+-- a call owes one answer on a ledger, and leaves its part of the memory in one way
+owes_one_answer :
+    (n : ℕ) (l : Ledger) (c : Call) (part part' part'' : List ℕ) (s s' : Said) → length part' ≡ length part → length part'' ≡ length part
+    → Owes n l c part s part' → Owes n l c part s' part'' → (s ≡ s') × (part' ≡ part'')
 owes_one_answer n l (call.Amend a) part part' part'' s s' e e' x y = (x.0 ∙ sym y.0, x.1 ∙ sym y.1)
 owes_one_answer n l (call.Route places) part part' part'' s s' e e' x y = route_once n (trip_of l) part part' part'' s s' e e' x y
 owes_one_answer n l (call.Regret list) part part' part'' s s' e e' x y = (regret_once (trip_of l) list.now s s' x.0 y.0, x.1 ∙ sym y.1)

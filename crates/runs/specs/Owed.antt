@@ -88,9 +88,3 @@ Owes n l call.Status part s part' = (s ≡ granted (l.revision ∷ length l.amen
 pub record Owed (n : ℕ) (l : Ledger) (c : Call) (r : Reply) (part part' : List ℕ) : Type 0 where
   pub question : answered r ≡ asked c
   pub owes : Owes n l c part (said r) part'
-
--- a call owes one answer on a ledger, and leaves its part of the memory in one way
-abbrev pub OwesOneAnswer : Type 0
-OwesOneAnswer =
-    (n : ℕ) (l : Ledger) (c : Call) (part part' part'' : List ℕ) (s s' : Said) → length part' ≡ length part → length part'' ≡ length part
-    → Owes n l c part s part' → Owes n l c part s' part'' → (s ≡ s') × (part' ≡ part'')

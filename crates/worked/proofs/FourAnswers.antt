@@ -15,7 +15,7 @@ use Rattle.chart.specs.Floors.{Begins, highs, Nearest, Floor}
 use Rattle.chart.specs.Grid.{grid_leg}
 use Rattle.chart.specs.GridLaws.{length_grid, grid_at}
 use Rattle.regret.proofs.Worsts.{worst_choice_gives_regret, regret_is_unique}
-use Rattle.worked.specs.FourFix.{four_fix_rows, FourFixWorked, FourFixClosed, SmallLatticeWorked}
+use Rattle.worked.specs.FourFix.{closed, from_first_to_last, four_fix_rows, FourFixWorked, FourFixClosed, SmallLatticeWorked}
 use Rattle.worked.proofs.Tests.{worst, worst_is_worst, braced, braced_is_braced}
 use Rattle.worked.proofs.FourLegs.{rows_with, legs_with, closed_open, leg_is, five_legs, joined, by_one, by_two, by_one_and_two, second_open, of_every_route}
 
@@ -250,6 +250,18 @@ regret_less_4 p f x y q g takes one' two' over =
     (record { by = q; flies = g; takes = takes; least = every_less_4 (λ l. x ≤ time (worst less_4.legs p) l) one' two' })
     over
 
+third_open : Route (legs_with Open Closed Open Closed Open) 0 3 (0 ∷ 4 ∷ 3 ∷ []) → Closed ≡ Open
+third_open f = sym (ap (λ (x : Row). x.standing) (leg_is Open Closed Open Closed Open 3 (omega arith))) ∙ f.chain.leads.1.1.0.stands
+
+-- with legs 1 and 3 closed every route would fly one of them
+none_without_1_and_3 : (q : List ℕ) → Flies (from_first_to_last (closed (closed four_fix_rows 1) 3)) q → ⊥
+unfolding legs_with
+none_without_1_and_3 =
+    of_every_route Open Closed Open Closed Open (λ _. ⊥)
+    (λ f. closed_open Closed refl (second_open Open Closed Open Closed Open 0 1 [] (omega arith) f))
+    (λ f. closed_open Closed refl (third_open f))
+    (λ f. closed_open Closed refl (second_open Open Closed Open Closed Open 2 3 [] (omega arith) f))
+
 pub four_fix_closed : FourFixClosed four_fix_rows
 unfolding legs_with
 four_fix_closed =
@@ -259,6 +271,9 @@ four_fix_closed =
     let regret_first = regret_less_4 (0 ∷ 1 ∷ []) first 450 450 (2 ∷ 3 ∷ []) last (omega arith) (omega arith) (omega arith) (omega arith) in
     let regret_last = regret_less_4 (2 ∷ 3 ∷ []) last 600 450 (0 ∷ 1 ∷ []) first (omega arith) (omega arith) (omega arith) (omega arith) in
     record {
+      tie_without_leg_4 = regret_last;
+      refused_without_legs_1_and_3 = λ memory h. (h, none_without_1_and_3, refl);
+      refused_with = refl;
       without_leg_4 = record {
         flies = first;
         regret = regret_first;
@@ -268,15 +283,8 @@ four_fix_closed =
             (λ _. beaten less_4 (0 ∷ 1 ∷ []) 450 (2 ∷ 3 ∷ []) 450 regret_last (inr (refl, inl (omega arith))))
             q f ne y r;
       };
-      without_legs_1_and_3 =
-          of_every_route Open Closed Open Closed Open (λ _. ⊥)
-          (λ f. closed_open Closed refl (second_open Open Closed Open Closed Open 0 1 [] (omega arith) f))
-          (λ f. closed_open Closed refl (third_open f))
-          (λ f. closed_open Closed refl (second_open Open Closed Open Closed Open 2 3 [] (omega arith) f));
+      without_legs_1_and_3 = none_without_1_and_3;
     }
-  where
-    third_open : Route (legs_with Open Closed Open Closed Open) 0 3 (0 ∷ 4 ∷ 3 ∷ []) → Closed ≡ Open
-    third_open f = sym (ap (λ (x : Row). x.standing) (leg_is Open Closed Open Closed Open 3 (omega arith))) ∙ f.chain.leads.1.1.0.stands
 
 pub small_lattice_worked : SmallLatticeWorked
 unfolding grid_leg

@@ -1,5 +1,5 @@
 -- A chart of four fixes and five legs, and a small lattice, with the answers that were worked out by hand.
-use Rattle.std.specs.Prelude.{◌≡◌, ℕ, List, [], ◌∷◌, map, length, slice_set, Some}
+use Rattle.std.specs.Prelude.{◌≡◌, ℕ, List, [], ◌∷◌, map, length, slice_set, Some, ◌≤◌, ◌+◌, Err}
 use Rattle.chart.specs.declared.row.Row.{Row}
 use Rattle.chart.specs.declared.row.Standing.{Standing}
 use Rattle.chart.specs.declared.row.Standing.TheVariants.{Open, Closed}
@@ -11,6 +11,8 @@ use Rattle.chart.specs.Quickest.{quickest_rule}
 use Rattle.chart.specs.Best.{BestTotal}
 use Rattle.chart.specs.Regret.{Trip, trip, Flies, Regret, LeastRegret}
 use Rattle.chart.specs.Floors.{Floor}
+use Rattle.least.specs.declared.refusals.RouteRefusal.TheVariants.{NoRoute}
+use Rattle.least.specs.Answers.{route_number, RouteAnswer}
 use Rattle.chart.specs.Grid.{grid_legs}
 
 abbrev pub row : (from to low high top : ℕ) → Standing → Row
@@ -52,10 +54,13 @@ pub record FourFixWorked (rows : List Row) : Type 0 where
   pub floor_of_legs_2_and_3 : Floor (from_first_to_last rows) (2 ∷ 3 ∷ []) 450
 
 -- with leg 4 closed the two routes that are left have the same regret, and the one whose list comes first is the answer;
--- with legs 1 and 3 closed there is no route
+-- with legs 1 and 3 closed there is no route, and a route call with places enough is refused with 25
 pub record FourFixClosed (rows : List Row) : Type 0 where
   pub without_leg_4 : LeastRegret (from_first_to_last (closed rows 4)) (0 ∷ 1 ∷ []) 450
+  pub tie_without_leg_4 : Regret (from_first_to_last (closed rows 4)) (2 ∷ 3 ∷ []) 450
   pub without_legs_1_and_3 : (q : List ℕ) → Flies (from_first_to_last (closed (closed rows 1) 3)) q → ⊥
+  pub refused_without_legs_1_and_3 : (memory : List ℕ) → 4 ≤ length memory + 1 → RouteAnswer (from_first_to_last (closed (closed rows 1) 3)) 4 memory (Err NoRoute) memory
+  pub refused_with : route_number NoRoute ≡ 25
 
 -- a lattice of 3 rows and 2 columns has 7 legs, and the leg 2 runs from the fix 1 to the fix 3
 abbrev pub SmallLatticeWorked : Type 0
