@@ -4,11 +4,11 @@ use Rattle.chart.specs.declared.leg.Leg.{Leg}
 use Rattle.chart.specs.Legs.{at}
 use Rattle.chart.specs.Routes.{Leads, In, Once}
 
-in_behind : (us vs : List ℕ) (v : ℕ) → In v vs → In v (us ++ vs)
+pub in_behind : (us vs : List ℕ) (v : ℕ) → In v vs → In v (us ++ vs)
 in_behind [] vs v i = i
 in_behind (u ∷ us) vs v i = grind (arith, in_behind us vs v)
 
-in_either : (us vs : List ℕ) (v : ℕ) → In v (us ++ vs) → In v us ⊎ In v vs
+pub in_either : (us vs : List ℕ) (v : ℕ) → In v (us ++ vs) → In v us ⊎ In v vs
 in_either [] vs v i = inr i
 in_either (u ∷ us) vs v i = grind (arith, in_either us vs v)
 

@@ -1,0 +1,129 @@
+-- From two places where the table tells a lead, a rival keeps it on whatever way the route goes on.
+use Rattle.std.proofs.Common.{◌≡◌, ℕ, zero, suc, ◌+◌, ◌-◌, ◌<◌, ◌≤◌, ◌==◌, Bool, true, false, cond, ◌⊎◌, ◌≢◌, List, [], ◌∷◌, length, sym, refl, ap, ◌∙◌, subst, inl, inr, ⊎_elim, arith, eq-eqb, ne_eqb}
+use Rattle.std.proofs.lemmas.Bool.{cases_eq, cases_lt}
+use Rattle.chart.specs.declared.leg.Leg.{Leg}
+use Rattle.chart.specs.Legs.{at}
+use Rattle.chart.specs.Routes.{In}
+use Rattle.chart.specs.Regret.{Trip, time}
+use Rattle.pursuit.specs.Rivals.{IsRouteLeg, IsRivalLeg, Path}
+use Rattle.pursuit.specs.Pursuits.{Table, beside}
+use Rattle.pursuit.proofs.Paths.{path_rises, path_leaves, path_leaves_or, route_leg_is_rival_leg}
+
+module _ {t : Trip} {height : ℕ → ℕ} {offset : ℕ} {lead : ℕ → ℕ → ℕ} (table : Table t height offset lead) (w : ℕ → ℕ) where
+  -- The route is at a and goes on by ks, the rival is at b, and the table tells their lead. In the choice w the legs ks take
+  -- their high time, and of the others those that leave fixes no lower than b their low time.
+  pub record Play (ks : List ℕ) (a b : ℕ) : Type 0 where
+    pub path : Path (IsRouteLeg t) t.legs a ks t.to
+    pub on : (k : ℕ) → In k ks → w k ≡ (at t.legs k).high
+    pub off : (k : ℕ) → (In k ks → ⊥) → height b ≤ height (at t.legs k).from → w k ≡ (at t.legs k).low
+    pub told : 1 ≤ lead a b
+
+  -- a rival goes on to the destination, and keeps the lead
+  pub record Kept (ks : List ℕ) (a b : ℕ) : Type 0 where
+    pub by : List ℕ
+    pub path : Path (IsRivalLeg t) t.legs b by t.to
+    pub keeps : lead a b + time w by ≤ time w ks + offset
+
+  -- how many moves there may be
+  abbrev moves : List ℕ → ℕ → ℕ
+  moves ks b = length ks + (height t.to + 1 - height b)
+
+  -- in fewer than n moves a rival comes to the destination and keeps the lead
+  abbrev KeptIn : ℕ → Type 0
+  KeptIn n = (ks : List ℕ) (a b : ℕ) → moves ks b < n → Play ks a b → Kept ks a b
+
+  route_rises : (k : ℕ) → IsRouteLeg t k → height (at t.legs k).from < height (at t.legs k).to
+  route_rises k l = table.rises k (route_leg_is_rival_leg t k l)
+
+  -- where both leave one fix, how long the rival's leg takes
+  beside_taken : (e f : ℕ) → (f ≡ e → w f ≡ (at t.legs f).high) → ((f ≡ e → ⊥) → w f ≡ (at t.legs f).low) → w f ≡ beside t.legs e f
+  beside_taken e f same other =
+      ⊎_elim
+      (λ s. same s ∙ sym (ap (λ b. cond b (at t.legs f).high (at t.legs f).low) (eq-eqb f e s)))
+      (λ n. other n ∙ sym (ap (λ b. cond b (at t.legs f).high (at t.legs f).low) (ne_eqb f e n)))
+      (cases_eq f e)
+
+  module _ (n : ℕ) (deeper : KeptIn n) where
+    -- the rival stands no higher, and moves
+    rival_turn : (ks : List ℕ) (a b : ℕ) → moves ks b < suc n → Play ks a b → a ≢ b → height b ≤ height a → Kept ks a b
+    rival_turn ks a b m play ne le =
+        let move = table.rival_moves a b ne le play.told in
+        let f = move.0 in
+        let from : height (at t.legs f).from ≡ height b = ap height move.2 in
+        let rises = table.rises f move.1 in
+        let within = path_rises (IsRouteLeg t) t.legs height route_rises ks a t.to play.path in
+        let ahead : In f ks → ⊥ = λ i.
+            ⊎_elim (λ e. ne (sym e ∙ move.2)) (λ l. omega arith) (path_leaves_or (IsRouteLeg t) t.legs height route_rises ks a t.to play.path f i) in
+        let low = play.off f ahead (omega arith) in
+        let rest = deeper ks a (at t.legs f).to (omega (arith, move.3)) (record {
+          path = play.path;
+          on = play.on;
+          off = λ k i h. play.off k i (omega arith);
+          told = let t = play.told in omega (arith, move.3);
+        }) in
+        record {
+          by = f ∷ rest.by;
+          path = (move.1, move.2, rest.path);
+          keeps = let k = rest.keeps in omega (arith, move.3);
+        }
+
+    -- the route stands lower, and moves
+    route_turn : (ks : List ℕ) (a b : ℕ) → moves ks b < suc n → Play ks a b → height a < height b → Kept ks a b
+    route_turn [] a b m play lt =
+        let none = table.rival_past b (subst (λ y. height y < height b) play.path lt) in
+        let told : 1 ≤ lead t.to b = subst (λ y. 1 ≤ lead y b) play.path play.told in
+        absurd (omega arith)
+    route_turn (e ∷ ks) a b m play lt =
+        let leg = play.path.0 in
+        let move = table.route_moves a b e lt play.told leg play.path.1 in
+        let from : height (at t.legs e).from ≡ height a = ap height play.path.1 in
+        let high = play.on e (inl refl) in
+        let rest = deeper ks (at t.legs e).to b (omega arith) (record {
+          path = play.path.2;
+          on = λ k i. play.on k (inr i);
+          off = λ k i h. play.off k (⊎_elim (λ (s : k ≡ e). let s' = ap (λ y. height (at t.legs y).from) s in omega arith) i) h;
+          told = move.0;
+        }) in
+        record { by = rest.by; path = rest.path; keeps = let k = rest.keeps in omega (arith, move.1) }
+
+    -- both stand at one fix, and move
+    both_turn : (ks : List ℕ) (a : ℕ) → moves ks a < suc n → Play ks a a → Kept ks a a
+    both_turn [] a m play =
+        subst (λ y. Kept [] y y) (sym play.path) (record { by = []; path = refl; keeps = let b = table.both_arrived in omega arith })
+    both_turn (e ∷ ks) a m play =
+        let leg = play.path.0 in
+        let move = table.both_move a e play.told leg play.path.1 in
+        let f = move.0 in
+        let from : height (at t.legs f).from ≡ height a = ap height move.2 in
+        let from' : height (at t.legs e).from ≡ height a = ap height play.path.1 in
+        let up = table.rises f move.1 in
+        let up' = route_rises e leg in
+        let high = play.on e (inl refl) in
+        let ahead : In f ks → ⊥ = λ i. let l = path_leaves (IsRouteLeg t) t.legs height route_rises ks (at t.legs e).to t.to play.path.2 f i in omega arith in
+        let takes : w f ≡ beside t.legs e f = beside_taken e f (λ s. play.on f (inl s)) (λ s. play.off f (⊎_elim s ahead) (omega arith)) in
+        let rest = deeper ks (at t.legs e).to (at t.legs f).to (omega arith) (record {
+          path = play.path.2;
+          on = λ k i. play.on k (inr i);
+          off = λ k i h. play.off k (⊎_elim (λ (s : k ≡ e). let s' = ap (λ y. height (at t.legs y).from) s in omega arith) i) (omega arith);
+          told = move.3;
+        }) in
+        record {
+          by = f ∷ rest.by;
+          path = (move.1, move.2, rest.path);
+          keeps = let k = rest.keeps in omega (arith, move.4);
+        }
+
+    turn : (ks : List ℕ) (a b : ℕ) → moves ks b < suc n → Play ks a b → Kept ks a b
+    turn ks a b m play =
+        ⊎_elim
+        (λ (e : a ≡ b). subst (λ y. Kept ks a y) e (both_turn ks a (subst (λ y. moves ks y < suc n) (sym e) m) (subst (λ y. Play ks a y) (sym e) play)))
+        (λ (ne : a ≢ b). ⊎_elim (λ lt. route_turn ks a b m play lt) (λ le. rival_turn ks a b m play ne le) (cases_lt (height a) (height b)))
+        (cases_eq a b)
+
+  kept_in : (n : ℕ) → KeptIn n
+  kept_in zero = λ ks a b m play. absurd (omega arith)
+  kept_in (suc n) = turn n (kept_in n)
+
+  -- a lead that the table tells is kept
+  pub kept : (ks : List ℕ) (a b : ℕ) → Play ks a b → Kept ks a b
+  kept ks a b play = kept_in (suc (moves ks b)) ks a b (omega arith) play

@@ -1,0 +1,3 @@
+pub mod Paths
+pub mod Chases
+pub mod Bounds

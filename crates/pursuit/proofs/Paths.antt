@@ -1,0 +1,104 @@
+-- Paths put together, paths in an order in which their legs rise, and the legs of a route as a path.
+use Rattle.std.proofs.Common.{◌≡◌, ℕ, ◌+◌, ◌<◌, ◌≤◌, ◌⊎◌, List, [], ◌∷◌, ◌++◌, sym, refl, subst, inl, inr, ⊎_elim, arith}
+use Rattle.chart.specs.declared.leg.Leg.{Leg}
+use Rattle.chart.specs.Legs.{at}
+use Rattle.chart.specs.Routes.{Leaves, Leads, entered, met, In, Once, Chain}
+use Rattle.chart.specs.Regret.{Trip, Flies}
+use Rattle.regret.proofs.Worsts.{in_entered}
+use Rattle.regret.proofs.Losing.{chain_is_route}
+use Rattle.floor.proofs.Fixes.{left_not_end}
+use Rattle.pursuit.specs.Rivals.{IsRouteLeg, IsRivalLeg, IsRival, Path}
+
+module _ (P : ℕ → Type 0) (legs : List Leg) where
+  pub path_join : (ks ms : List ℕ) (a z b : ℕ) → Path P legs a ks z → Path P legs z ms b → Path P legs a (ks ++ ms) b
+  path_join [] ms a z b e m = subst (λ y. Path P legs y ms b) (sym e) m
+  path_join (k ∷ ks) ms a z b h m = (h.0, h.1, path_join ks ms (at legs k).to z b h.2 m)
+
+  module _ (height : ℕ → ℕ) (rises : (k : ℕ) → P k → height (at legs k).from < height (at legs k).to) where
+    -- a path ends no lower than it begins
+    pub path_rises : (ks : List ℕ) (a z : ℕ) → Path P legs a ks z → height a ≤ height z
+    path_rises [] a z e = subst (λ y. height a ≤ height y) e (omega arith)
+    path_rises (k ∷ ks) a z h =
+        let r = rises k h.0 in
+        let i = path_rises ks (at legs k).to z h.2 in
+        subst (λ y. height y ≤ height z) h.1 (omega arith)
+
+    -- of its legs, the first leaves its first fix, and the others leave higher ones
+    pub path_leaves_or : (ks : List ℕ) (a z : ℕ) → Path P legs a ks z → (k : ℕ) → In k ks → ((at legs k).from ≡ a) ⊎ (height a < height (at legs k).from)
+    path_leaves_or [] a z e k i = absurd i
+    path_leaves_or (m ∷ ms) a z h k i =
+        ⊎_elim
+        (λ e. inl (subst (λ y. (at legs y).from ≡ a) (sym e) h.1))
+        (λ j.
+        let r : height a < height (at legs m).to = subst (λ y. height y < height (at legs m).to) h.1 (rises m h.0) in
+        inr (⊎_elim (λ e. subst (λ y. height a < height y) (sym e) r) (λ l. omega arith) (path_leaves_or ms (at legs m).to z h.2 k j)))
+        i
+
+    -- so none leaves a lower one
+    pub path_leaves : (ks : List ℕ) (a z : ℕ) → Path P legs a ks z → (k : ℕ) → In k ks → height a ≤ height (at legs k).from
+    path_leaves ks a z h k i = ⊎_elim (λ e. subst (λ y. height a ≤ height y) (sym e) (omega arith)) (λ l. omega arith) (path_leaves_or ks a z h k i)
+
+    -- and none as high as its last fix, or higher
+    pub path_leaves_below : (ks : List ℕ) (a z : ℕ) → Path P legs a ks z → (k : ℕ) → In k ks → height (at legs k).from < height z
+    path_leaves_below [] a z e k i = absurd i
+    path_leaves_below (m ∷ ms) a z h k i =
+        ⊎_elim
+        (λ e. let r = rises m h.0 in let l = path_rises ms (at legs m).to z h.2 in subst (λ y. height (at legs y).from < height z) (sym e) (omega arith))
+        (λ j. path_leaves_below ms (at legs m).to z h.2 k j)
+        i
+
+    -- it enters fixes that are higher than its first
+    pub path_enters : (ks : List ℕ) (a z : ℕ) → Path P legs a ks z → (v : ℕ) → In v (entered legs ks) → height a < height v
+    path_enters [] a z e v i = absurd i
+    path_enters (m ∷ ms) a z h v i =
+        let r = rises m h.0 in
+        subst (λ y. height y < height v) h.1 (⊎_elim
+        (λ e. subst (λ y. height (at legs m).from < height y) (sym e) r)
+        (λ j. let l = path_enters ms (at legs m).to z h.2 v j in omega arith)
+        i)
+
+    -- so that it meets no fix twice
+    pub path_once : (ks : List ℕ) (a z : ℕ) → Path P legs a ks z → Once (met legs a ks)
+    path_once [] a z e = ((λ i. i), tt)
+    path_once (k ∷ ks) a z h =
+        ((λ i. let l = path_enters (k ∷ ks) a z h a i in omega arith), path_once ks (at legs k).to z h.2)
+
+-- the legs of a list that leads on, and each of which has P, are a path
+pub leads_path : (P : ℕ → Type 0) (legs : List Leg) (ks : List ℕ) (a z : ℕ) → Leads legs a ks z → ((k : ℕ) → In k ks → P k) → Path P legs a ks z
+leads_path P legs [] a z e all = e
+leads_path P legs (k ∷ ks) a z l all = (all k (inl refl), l.0.from, leads_path P legs ks (at legs k).to z l.1 (λ m i. all m (inr i)))
+
+leg_leaves : (legs : List Leg) (ks : List ℕ) (a z : ℕ) → Leads legs a ks z → (k : ℕ) → In k ks → Leaves legs (at legs k).from k
+leg_leaves legs [] a z l k i = absurd i
+leg_leaves legs (m ∷ ms) a z l k i =
+    ⊎_elim
+    (λ e. subst (λ y. Leaves legs (at legs y).from y) (sym e) (record { there = l.0.there; stands = l.0.stands; from = refl }))
+    (λ j. leg_leaves legs ms (at legs m).to z l.1 k j)
+    i
+
+-- each leg of a route may be on a route
+pub route_legs : (t : Trip) (p : List ℕ) → Flies t p → (k : ℕ) → In k p → IsRouteLeg t k
+route_legs t p flies k i =
+    let leaves = leg_leaves t.legs p t.from t.to flies.chain.leads k i in
+    record {
+      there = leaves.there;
+      stands = leaves.stands;
+      enters = λ e. flies.chain.once.0 (subst (λ y. In y (entered t.legs p)) e (in_entered t.legs p k i));
+      leaves = λ e. left_not_end t.legs p t.from t.to flies.chain.leads flies.chain.once k i e;
+    }
+
+-- What is known of rivals. Where rivals are more than the routes, these two change.
+
+-- a leg that may be on a route may be on a rival
+pub route_leg_is_rival_leg : (t : Trip) (k : ℕ) → IsRouteLeg t k → IsRivalLeg t k
+route_leg_is_rival_leg t k l = l
+
+path_leads : (t : Trip) (ks : List ℕ) (a z : ℕ) → Path (IsRivalLeg t) t.legs a ks z → Leads t.legs a ks z
+path_leads t [] a z e = e
+path_leads t (k ∷ ks) a z h = (record { there = h.0.there; stands = h.0.stands; from = h.1 }, path_leads t ks (at t.legs k).to z h.2)
+
+-- a path of rivals' legs that rise, from the departure to the destination, is a rival, if there is a route
+pub path_is_rival : (t : Trip) (height : ℕ → ℕ) → ((k : ℕ) → IsRivalLeg t k → height (at t.legs k).from < height (at t.legs k).to) → (r : List ℕ) → Path (IsRivalLeg t) t.legs t.from r t.to → (p : List ℕ) → Flies t p → IsRival t r
+path_is_rival t height rises r path p flies =
+    let chain : Chain t.legs t.from r t.to = record { leads = path_leads t r t.from t.to path; once = path_once (IsRivalLeg t) t.legs height rises r t.from t.to path } in
+    chain_is_route t.legs t.from t.to t.to r chain refl p flies
