@@ -62,7 +62,7 @@ module _ (t : Trip) (ks rest : List ℕ) (x : ℕ) (bound : PursuitBound t ks x)
   play = record {
     path = onward;
     on = λ k i. on k (in_behind ks rest k i);
-    off = λ k n h. off k (λ j. let l = before k j in let o = bound.onward in omega arith) n;
+    off = λ k n s. off k (λ j. let l = before k j in let o = bound.onward in ⊎_elim (λ e. let h : bound.height (at t.legs k).from ≡ bound.height bound.b = ap bound.height e in omega arith) (λ h. omega arith) s) n;
     told = bound.told;
   }
 

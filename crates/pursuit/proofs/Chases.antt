@@ -7,15 +7,19 @@ use Rattle.chart.specs.Routes.{In}
 use Rattle.chart.specs.Regret.{Trip, time}
 use Rattle.pursuit.specs.Rivals.{IsRouteLeg, IsRivalLeg, Path}
 use Rattle.pursuit.specs.Pursuits.{Table, beside}
-use Rattle.pursuit.proofs.Paths.{path_rises, path_leaves, path_leaves_or, route_leg_is_rival_leg}
+use Rattle.pursuit.proofs.Paths.{path_rises, path_leaves, route_leg_is_rival_leg}
 
 module _ {t : Trip} {height : ℕ → ℕ} {offset : ℕ} {lead : ℕ → ℕ → ℕ} (table : Table t height offset lead) (w : ℕ → ℕ) where
+  -- the rival, which is at b, may come to leave the fix v
+  abbrev pub StillTo : ℕ → ℕ → Type 0
+  StillTo b v = (v ≡ b) ⊎ (height b < height v)
+
   -- The route is at a and goes on by ks, the rival is at b, and the table tells their lead. In the choice w the legs ks take
-  -- their high time, and of the others those that leave fixes no lower than b their low time.
+  -- their high time, and of the others those that the rival may come to fly their low time.
   pub record Play (ks : List ℕ) (a b : ℕ) : Type 0 where
     pub path : Path (IsRouteLeg t) t.legs a ks t.to
     pub on : (k : ℕ) → In k ks → w k ≡ (at t.legs k).high
-    pub off : (k : ℕ) → (In k ks → ⊥) → height b ≤ height (at t.legs k).from → w k ≡ (at t.legs k).low
+    pub off : (k : ℕ) → (In k ks → ⊥) → StillTo b (at t.legs k).from → w k ≡ (at t.legs k).low
     pub told : 1 ≤ lead a b
 
   -- a rival goes on to the destination, and keeps the lead
@@ -35,6 +39,10 @@ module _ {t : Trip} {height : ℕ → ℕ} {offset : ℕ} {lead : ℕ → ℕ �
   route_rises : (k : ℕ) → IsRouteLeg t k → height (at t.legs k).from < height (at t.legs k).to
   route_rises k l = table.rises k (route_leg_is_rival_leg t k l)
 
+  -- once the rival has moved on from b to c, what it may come to leave is higher than b
+  still_higher : (b c v : ℕ) → height b < height c → StillTo c v → height b < height v
+  still_higher b c v up s = ⊎_elim (λ e. subst (λ y. height b < height y) (sym e) up) (λ h. omega arith) s
+
   -- where both leave one fix, how long the rival's leg takes
   beside_taken : (e f : ℕ) → (f ≡ e → w f ≡ (at t.legs f).high) → ((f ≡ e → ⊥) → w f ≡ (at t.legs f).low) → w f ≡ beside t.legs e f
   beside_taken e f same other =
@@ -44,22 +52,21 @@ module _ {t : Trip} {height : ℕ → ℕ} {offset : ℕ} {lead : ℕ → ℕ �
       (cases_eq f e)
 
   module _ (n : ℕ) (deeper : KeptIn n) where
-    -- the rival stands no higher, and moves
-    rival_turn : (ks : List ℕ) (a b : ℕ) → moves ks b < suc n → Play ks a b → a ≢ b → height b ≤ height a → Kept ks a b
-    rival_turn ks a b m play ne le =
-        let move = table.rival_moves a b ne le play.told in
+    -- the rival stands lower, and moves
+    rival_turn : (ks : List ℕ) (a b : ℕ) → moves ks b < suc n → Play ks a b → height b < height a → Kept ks a b
+    rival_turn ks a b m play lt =
+        let move = (table.supported a b).rival_moves lt play.told in
         let f = move.0 in
         let from : height (at t.legs f).from ≡ height b = ap height move.2 in
         let rises = table.rises f move.1 in
         let within = path_rises (IsRouteLeg t) t.legs height route_rises ks a t.to play.path in
-        let ahead : In f ks → ⊥ = λ i.
-            ⊎_elim (λ e. ne (sym e ∙ move.2)) (λ l. omega arith) (path_leaves_or (IsRouteLeg t) t.legs height route_rises ks a t.to play.path f i) in
-        let low = play.off f ahead (omega arith) in
+        let behind : In f ks → ⊥ = λ i. let l = path_leaves (IsRouteLeg t) t.legs height route_rises ks a t.to play.path f i in omega arith in
+        let low = play.off f behind (inl move.2) in
         let rest = deeper ks a (at t.legs f).to (omega (arith, move.3)) (record {
           path = play.path;
           on = play.on;
-          off = λ k i h. play.off k i (omega arith);
-          told = let t = play.told in omega (arith, move.3);
+          off = λ k n s. play.off k n (inr (still_higher b (at t.legs f).to (at t.legs k).from (omega arith) s));
+          told = let one = play.told in omega (arith, move.3);
         }) in
         record {
           by = f ∷ rest.by;
@@ -67,21 +74,25 @@ module _ {t : Trip} {height : ℕ → ℕ} {offset : ℕ} {lead : ℕ → ℕ �
           keeps = let k = rest.keeps in omega (arith, move.3);
         }
 
-    -- the route stands lower, and moves
-    route_turn : (ks : List ℕ) (a b : ℕ) → moves ks b < suc n → Play ks a b → height a < height b → Kept ks a b
-    route_turn [] a b m play lt =
-        let none = table.rival_past b (subst (λ y. height y < height b) play.path lt) in
-        let told : 1 ≤ lead t.to b = subst (λ y. 1 ≤ lead y b) play.path play.told in
+    -- the route stands no higher, and moves
+    route_turn : (ks : List ℕ) (a b : ℕ) → moves ks b < suc n → Play ks a b → a ≢ b → height a ≤ height b → Kept ks a b
+    route_turn [] a b m play ne le =
+        let none = (table.supported a b).rival_past play.path ne le in
+        let told = play.told in
         absurd (omega arith)
-    route_turn (e ∷ ks) a b m play lt =
+    route_turn (e ∷ ks) a b m play ne le =
         let leg = play.path.0 in
-        let move = table.route_moves a b e lt play.told leg play.path.1 in
-        let from : height (at t.legs e).from ≡ height a = ap height play.path.1 in
+        let from = play.path.1 in
+        let move = (table.supported a b).route_moves ne le play.told e leg from in
         let high = play.on e (inl refl) in
+        let level : height (at t.legs e).from ≡ height a = ap height from in
+        let gone : (k : ℕ) → StillTo b (at t.legs k).from → k ≡ e → ⊥ = λ k s same.
+            let there : (at t.legs k).from ≡ a = ap (λ y. (at t.legs y).from) same ∙ from in
+            ⊎_elim (λ c. ne (sym there ∙ c)) (λ h. let l : height (at t.legs k).from ≡ height a = ap height there in omega arith) s in
         let rest = deeper ks (at t.legs e).to b (omega arith) (record {
           path = play.path.2;
           on = λ k i. play.on k (inr i);
-          off = λ k i h. play.off k (⊎_elim (λ (s : k ≡ e). let s' = ap (λ y. height (at t.legs y).from) s in omega arith) i) h;
+          off = λ k n s. play.off k (⊎_elim (gone k s) n) s;
           told = move.0;
         }) in
         record { by = rest.by; path = rest.path; keeps = let k = rest.keeps in omega (arith, move.1) }
@@ -89,10 +100,10 @@ module _ {t : Trip} {height : ℕ → ℕ} {offset : ℕ} {lead : ℕ → ℕ �
     -- both stand at one fix, and move
     both_turn : (ks : List ℕ) (a : ℕ) → moves ks a < suc n → Play ks a a → Kept ks a a
     both_turn [] a m play =
-        subst (λ y. Kept [] y y) (sym play.path) (record { by = []; path = refl; keeps = let b = table.both_arrived in omega arith })
+        record { by = []; path = play.path; keeps = let b = (table.supported a a).both_arrived play.path play.path in omega arith }
     both_turn (e ∷ ks) a m play =
         let leg = play.path.0 in
-        let move = table.both_move a e play.told leg play.path.1 in
+        let move = (table.supported a a).both_move refl play.told e leg play.path.1 in
         let f = move.0 in
         let from : height (at t.legs f).from ≡ height a = ap height move.2 in
         let from' : height (at t.legs e).from ≡ height a = ap height play.path.1 in
@@ -100,11 +111,13 @@ module _ {t : Trip} {height : ℕ → ℕ} {offset : ℕ} {lead : ℕ → ℕ �
         let up' = route_rises e leg in
         let high = play.on e (inl refl) in
         let ahead : In f ks → ⊥ = λ i. let l = path_leaves (IsRouteLeg t) t.legs height route_rises ks (at t.legs e).to t.to play.path.2 f i in omega arith in
-        let takes : w f ≡ beside t.legs e f = beside_taken e f (λ s. play.on f (inl s)) (λ s. play.off f (⊎_elim s ahead) (omega arith)) in
+        let takes : w f ≡ beside t.legs e f = beside_taken e f (λ s. play.on f (inl s)) (λ s. play.off f (⊎_elim s ahead) (inl move.2)) in
         let rest = deeper ks (at t.legs e).to (at t.legs f).to (omega arith) (record {
           path = play.path.2;
           on = λ k i. play.on k (inr i);
-          off = λ k i h. play.off k (⊎_elim (λ (s : k ≡ e). let s' = ap (λ y. height (at t.legs y).from) s in omega arith) i) (omega arith);
+          off = λ k n s.
+              let h : height a < height (at t.legs k).from = still_higher a (at t.legs f).to (at t.legs k).from (omega arith) s in
+              play.off k (⊎_elim (λ (same : k ≡ e). let l = ap (λ y. height (at t.legs y).from) same in omega arith) n) (inr h);
           told = move.3;
         }) in
         record {
@@ -117,7 +130,7 @@ module _ {t : Trip} {height : ℕ → ℕ} {offset : ℕ} {lead : ℕ → ℕ �
     turn ks a b m play =
         ⊎_elim
         (λ (e : a ≡ b). subst (λ y. Kept ks a y) e (both_turn ks a (subst (λ y. moves ks y < suc n) (sym e) m) (subst (λ y. Play ks a y) (sym e) play)))
-        (λ (ne : a ≢ b). ⊎_elim (λ lt. route_turn ks a b m play lt) (λ le. rival_turn ks a b m play ne le) (cases_lt (height a) (height b)))
+        (λ (ne : a ≢ b). ⊎_elim (λ lt. rival_turn ks a b m play lt) (λ le. route_turn ks a b m play ne le) (cases_lt (height b) (height a)))
         (cases_eq a b)
 
   kept_in : (n : ℕ) → KeptIn n

@@ -1,5 +1,5 @@
 -- Paths put together, paths in an order in which their legs rise, and the legs of a route as a path.
-use Rattle.std.proofs.Common.{◌≡◌, ℕ, ◌+◌, ◌<◌, ◌≤◌, ◌⊎◌, List, [], ◌∷◌, ◌++◌, sym, refl, subst, inl, inr, ⊎_elim, arith}
+use Rattle.std.proofs.Common.{◌≡◌, ℕ, ◌+◌, ◌<◌, ◌≤◌, List, [], ◌∷◌, ◌++◌, sym, refl, subst, inl, inr, ⊎_elim, arith}
 use Rattle.chart.specs.declared.leg.Leg.{Leg}
 use Rattle.chart.specs.Legs.{at}
 use Rattle.chart.specs.Routes.{Leaves, Leads, entered, met, In, Once, Chain}
@@ -8,6 +8,7 @@ use Rattle.regret.proofs.Worsts.{in_entered}
 use Rattle.regret.proofs.Losing.{chain_is_route}
 use Rattle.floor.proofs.Fixes.{left_not_end}
 use Rattle.pursuit.specs.Rivals.{IsRouteLeg, IsRivalLeg, IsRival, Path}
+use Rattle.pursuit.specs.Pursuits.{Rises}
 
 module _ (P : ℕ → Type 0) (legs : List Leg) where
   pub path_join : (ks ms : List ℕ) (a z b : ℕ) → Path P legs a ks z → Path P legs z ms b → Path P legs a (ks ++ ms) b
@@ -23,20 +24,14 @@ module _ (P : ℕ → Type 0) (legs : List Leg) where
         let i = path_rises ks (at legs k).to z h.2 in
         subst (λ y. height y ≤ height z) h.1 (omega arith)
 
-    -- of its legs, the first leaves its first fix, and the others leave higher ones
-    pub path_leaves_or : (ks : List ℕ) (a z : ℕ) → Path P legs a ks z → (k : ℕ) → In k ks → ((at legs k).from ≡ a) ⊎ (height a < height (at legs k).from)
-    path_leaves_or [] a z e k i = absurd i
-    path_leaves_or (m ∷ ms) a z h k i =
-        ⊎_elim
-        (λ e. inl (subst (λ y. (at legs y).from ≡ a) (sym e) h.1))
-        (λ j.
-        let r : height a < height (at legs m).to = subst (λ y. height y < height (at legs m).to) h.1 (rises m h.0) in
-        inr (⊎_elim (λ e. subst (λ y. height a < height y) (sym e) r) (λ l. omega arith) (path_leaves_or ms (at legs m).to z h.2 k j)))
-        i
-
-    -- so none leaves a lower one
+    -- its legs leave fixes no lower than its first
     pub path_leaves : (ks : List ℕ) (a z : ℕ) → Path P legs a ks z → (k : ℕ) → In k ks → height a ≤ height (at legs k).from
-    path_leaves ks a z h k i = ⊎_elim (λ e. subst (λ y. height a ≤ height y) (sym e) (omega arith)) (λ l. omega arith) (path_leaves_or ks a z h k i)
+    path_leaves [] a z e k i = absurd i
+    path_leaves (m ∷ ms) a z h k i =
+        subst (λ y. height y ≤ height (at legs k).from) h.1 (⊎_elim
+        (λ e. subst (λ y. height (at legs m).from ≤ height (at legs y).from) (sym e) (omega arith))
+        (λ j. let r = rises m h.0 in let l = path_leaves ms (at legs m).to z h.2 k j in omega arith)
+        i)
 
     -- and none as high as its last fix, or higher
     pub path_leaves_below : (ks : List ℕ) (a z : ℕ) → Path P legs a ks z → (k : ℕ) → In k ks → height (at legs k).from < height z
@@ -98,7 +93,7 @@ path_leads t [] a z e = e
 path_leads t (k ∷ ks) a z h = (record { there = h.0.there; stands = h.0.stands; from = h.1 }, path_leads t ks (at t.legs k).to z h.2)
 
 -- a path of rivals' legs that rise, from the departure to the destination, is a rival, if there is a route
-pub path_is_rival : (t : Trip) (height : ℕ → ℕ) → ((k : ℕ) → IsRivalLeg t k → height (at t.legs k).from < height (at t.legs k).to) → (r : List ℕ) → Path (IsRivalLeg t) t.legs t.from r t.to → (p : List ℕ) → Flies t p → IsRival t r
+pub path_is_rival : (t : Trip) (height : ℕ → ℕ) → Rises t height → (r : List ℕ) → Path (IsRivalLeg t) t.legs t.from r t.to → (p : List ℕ) → Flies t p → IsRival t r
 path_is_rival t height rises r path p flies =
     let chain : Chain t.legs t.from r t.to = record { leads = path_leads t r t.from t.to path; once = path_once (IsRivalLeg t) t.legs height rises r t.from t.to path } in
     chain_is_route t.legs t.from t.to t.to r chain refl p flies

@@ -1,9 +1,10 @@
 -- The pursuit bound of a chain: a regret that every route which begins with the chain has at least.
 --
 -- A route that begins with the chain is followed, and a rival is played against it that knows only where the route is.
--- Legs rise in an order of the fixes. Of the two, the one that stands at the earlier fix moves; where both stand at one
--- fix, both do. A table has for each two places a lead that the rival can be sure of from there on: by how much less
--- time it takes to the destination than the route, in the choice that is worst for the route.
+-- Every leg leads to a higher fix. Of the two, the one that stands lower moves; at one height the route does, so that the
+-- rival sees its move; where both stand at one fix, both do. A table has for each two places a lead that the rival can be
+-- sure of from there on: by how much less time it takes to the destination than the route, in the choice that is worst for
+-- the route.
 use Rattle.std.specs.Prelude.{◌≡◌, ℕ, ◌+◌, ◌<◌, ◌≤◌, ◌==◌, cond, List, ◌≢◌}
 use Rattle.chart.specs.declared.leg.Leg.{Leg}
 use Rattle.chart.specs.Legs.{at}
@@ -16,16 +17,24 @@ use Rattle.pursuit.specs.Rivals.{IsRouteLeg, IsRivalLeg, Path}
 abbrev pub beside : List Leg → ℕ → ℕ → ℕ
 beside legs e f = cond (f == e) (at legs f).high (at legs f).low
 
--- A table of leads. `lead a b` is for the route at a and the rival at b, and counts from `offset`, so that it may stand for
--- a lead below zero. At 0 it says nothing: from there the rival may have no way on. Each lead is as good as the next
--- move can keep. An order may have several fixes at one height.
+-- The next move from the two places keeps the lead x, as the table `lead` stands: the route is at a, and the rival at b.
+-- Leads count from `offset`, so that a number may stand for a lead below zero. A lead of 0 says nothing: from there the
+-- rival may have no way on.
+pub record Supported (t : Trip) (height : ℕ → ℕ) (offset : ℕ) (lead : ℕ → ℕ → ℕ) (a b x : ℕ) : Type 0 where
+  pub both_arrived : a ≡ t.to → b ≡ t.to → x ≤ offset
+  pub rival_past : a ≡ t.to → a ≢ b → height a ≤ height b → x ≡ 0
+  pub route_moves : a ≢ b → height a ≤ height b → 1 ≤ x → (e : ℕ) → IsRouteLeg t e → (at t.legs e).from ≡ a → (1 ≤ lead (at t.legs e).to b) × (x ≤ lead (at t.legs e).to b + (at t.legs e).high)
+  pub rival_moves : height b < height a → 1 ≤ x → (f : ℕ) × IsRivalLeg t f × ((at t.legs f).from ≡ b) × (x + (at t.legs f).low ≤ lead a (at t.legs f).to)
+  pub both_move : a ≡ b → 1 ≤ x → (e : ℕ) → IsRouteLeg t e → (at t.legs e).from ≡ a → (f : ℕ) × IsRivalLeg t f × ((at t.legs f).from ≡ a) × (1 ≤ lead (at t.legs e).to (at t.legs f).to) × (x + beside t.legs e f ≤ lead (at t.legs e).to (at t.legs f).to + (at t.legs e).high)
+
+-- every leg leads to a higher fix, but for those that no route and no rival has
+abbrev pub Rises : Trip → (ℕ → ℕ) → Type 0
+Rises t height = (k : ℕ) → IsRivalLeg t k → height (at t.legs k).from < height (at t.legs k).to
+
+-- a table of leads, each of which the next move keeps
 pub record Table (t : Trip) (height : ℕ → ℕ) (offset : ℕ) (lead : ℕ → ℕ → ℕ) : Type 0 where
-  pub rises : (k : ℕ) → IsRivalLeg t k → height (at t.legs k).from < height (at t.legs k).to
-  pub both_arrived : lead t.to t.to ≤ offset
-  pub rival_past : (b : ℕ) → height t.to < height b → lead t.to b ≡ 0
-  pub route_moves : (a b e : ℕ) → height a < height b → 1 ≤ lead a b → IsRouteLeg t e → (at t.legs e).from ≡ a → (1 ≤ lead (at t.legs e).to b) × (lead a b ≤ lead (at t.legs e).to b + (at t.legs e).high)
-  pub rival_moves : (a b : ℕ) → a ≢ b → height b ≤ height a → 1 ≤ lead a b → (f : ℕ) × IsRivalLeg t f × ((at t.legs f).from ≡ b) × (lead a b + (at t.legs f).low ≤ lead a (at t.legs f).to)
-  pub both_move : (a e : ℕ) → 1 ≤ lead a a → IsRouteLeg t e → (at t.legs e).from ≡ a → (f : ℕ) × IsRivalLeg t f × ((at t.legs f).from ≡ a) × (1 ≤ lead (at t.legs e).to (at t.legs f).to) × (lead a a + beside t.legs e f ≤ lead (at t.legs e).to (at t.legs f).to + (at t.legs e).high)
+  pub rises : Rises t height
+  pub supported : (a b : ℕ) → Supported t height offset lead a b (lead a b)
 
 -- a rival comes to the fix b in the time d of the choice w, by legs that leave fixes below the height h
 pub record Reaches (t : Trip) (height w : ℕ → ℕ) (h b d : ℕ) : Type 0 where
