@@ -55,23 +55,24 @@ module _ {t : Trip} {height : ℕ → ℕ} {offset : ℕ} {lead : ℕ → ℕ �
     -- the rival stands lower, and moves
     rival_turn : (ks : List ℕ) (a b : ℕ) → moves ks b < suc n → Play ks a b → height b < height a → Kept ks a b
     rival_turn ks a b m play lt =
-        let move = (table.supported a b).rival_moves lt play.told in
-        let f = move.0 in
-        let from : height (at t.legs f).from ≡ height b = ap height move.2 in
-        let rises = table.rises f move.1 in
+        let some = (table.supported a b).rival_moves lt play.told in
+        let f = some.0 in
+        let from : height (at t.legs f).from ≡ height b = ap height some.1 in
+        let move = some.2 play.told in
+        let rises = table.rises f move.0 in
         let within = path_rises (IsRouteLeg t) t.legs height route_rises ks a t.to play.path in
         let behind : In f ks → ⊥ = λ i. let l = path_leaves (IsRouteLeg t) t.legs height route_rises ks a t.to play.path f i in omega arith in
-        let low = play.off f behind (inl move.2) in
-        let rest = deeper ks a (at t.legs f).to (omega (arith, move.3)) (record {
+        let low = play.off f behind (inl some.1) in
+        let rest = deeper ks a (at t.legs f).to (omega (arith, move.1)) (record {
           path = play.path;
           on = play.on;
           off = λ k n s. play.off k n (inr (still_higher b (at t.legs f).to (at t.legs k).from (omega arith) s));
-          told = let one = play.told in omega (arith, move.3);
+          told = let one = play.told in omega (arith, move.1);
         }) in
         record {
           by = f ∷ rest.by;
-          path = (move.1, move.2, rest.path);
-          keeps = let k = rest.keeps in omega (arith, move.3);
+          path = (move.0, some.1, rest.path);
+          keeps = let k = rest.keeps in omega (arith, move.1);
         }
 
     -- the route stands no higher, and moves
@@ -83,7 +84,7 @@ module _ {t : Trip} {height : ℕ → ℕ} {offset : ℕ} {lead : ℕ → ℕ �
     route_turn (e ∷ ks) a b m play ne le =
         let leg = play.path.0 in
         let from = play.path.1 in
-        let move = (table.supported a b).route_moves ne le play.told e leg from in
+        let move = (table.supported a b).route_moves ne le e leg.there from play.told leg in
         let high = play.on e (inl refl) in
         let level : height (at t.legs e).from ≡ height a = ap height from in
         let gone : (k : ℕ) → StillTo b (at t.legs k).from → k ≡ e → ⊥ = λ k s same.
@@ -103,27 +104,28 @@ module _ {t : Trip} {height : ℕ → ℕ} {offset : ℕ} {lead : ℕ → ℕ �
         record { by = []; path = play.path; keeps = let b = (table.supported a a).both_arrived play.path play.path in omega arith }
     both_turn (e ∷ ks) a m play =
         let leg = play.path.0 in
-        let move = (table.supported a a).both_move refl play.told e leg play.path.1 in
-        let f = move.0 in
-        let from : height (at t.legs f).from ≡ height a = ap height move.2 in
+        let some = (table.supported a a).both_move refl e leg.there play.path.1 play.told leg in
+        let f = some.0 in
+        let move = some.2 play.told in
+        let from : height (at t.legs f).from ≡ height a = ap height some.1 in
         let from' : height (at t.legs e).from ≡ height a = ap height play.path.1 in
-        let up = table.rises f move.1 in
+        let up = table.rises f move.0 in
         let up' = route_rises e leg in
         let high = play.on e (inl refl) in
         let ahead : In f ks → ⊥ = λ i. let l = path_leaves (IsRouteLeg t) t.legs height route_rises ks (at t.legs e).to t.to play.path.2 f i in omega arith in
-        let takes : w f ≡ beside t.legs e f = beside_taken e f (λ s. play.on f (inl s)) (λ s. play.off f (⊎_elim s ahead) (inl move.2)) in
+        let takes : w f ≡ beside t.legs e f = beside_taken e f (λ s. play.on f (inl s)) (λ s. play.off f (⊎_elim s ahead) (inl some.1)) in
         let rest = deeper ks (at t.legs e).to (at t.legs f).to (omega arith) (record {
           path = play.path.2;
           on = λ k i. play.on k (inr i);
           off = λ k n s.
               let h : height a < height (at t.legs k).from = still_higher a (at t.legs f).to (at t.legs k).from (omega arith) s in
               play.off k (⊎_elim (λ (same : k ≡ e). let l = ap (λ y. height (at t.legs y).from) same in omega arith) n) (inr h);
-          told = move.3;
+          told = move.1;
         }) in
         record {
           by = f ∷ rest.by;
-          path = (move.1, move.2, rest.path);
-          keeps = let k = rest.keeps in omega (arith, move.4);
+          path = (move.0, some.1, rest.path);
+          keeps = let k = rest.keeps in omega (arith, move.2);
         }
 
     turn : (ks : List ℕ) (a b : ℕ) → moves ks b < suc n → Play ks a b → Kept ks a b

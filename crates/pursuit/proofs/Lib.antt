@@ -1,3 +1,5 @@
 pub mod Paths
 pub mod Chases
 pub mod Bounds
+pub mod Reading
+pub mod LegByLeg

@@ -77,9 +77,11 @@ route_legs t p flies k i =
     let leaves = leg_leaves t.legs p t.from t.to flies.chain.leads k i in
     record {
       there = leaves.there;
-      stands = leaves.stands;
-      enters = λ e. flies.chain.once.0 (subst (λ y. In y (entered t.legs p)) e (in_entered t.legs p k i));
-      leaves = λ e. left_not_end t.legs p t.from t.to flies.chain.leads flies.chain.once k i e;
+      serves = record {
+        stands = leaves.stands;
+        enters = λ e. flies.chain.once.0 (subst (λ y. In y (entered t.legs p)) e (in_entered t.legs p k i));
+        leaves = λ e. left_not_end t.legs p t.from t.to flies.chain.leads flies.chain.once k i e;
+      };
     }
 
 -- What is known of rivals. Where rivals are more than the routes, these two change.
@@ -90,7 +92,7 @@ route_leg_is_rival_leg t k l = l
 
 path_leads : (t : Trip) (ks : List ℕ) (a z : ℕ) → Path (IsRivalLeg t) t.legs a ks z → Leads t.legs a ks z
 path_leads t [] a z e = e
-path_leads t (k ∷ ks) a z h = (record { there = h.0.there; stands = h.0.stands; from = h.1 }, path_leads t ks (at t.legs k).to z h.2)
+path_leads t (k ∷ ks) a z h = (record { there = h.0.there; stands = h.0.serves.stands; from = h.1 }, path_leads t ks (at t.legs k).to z h.2)
 
 -- a path of rivals' legs that rise, from the departure to the destination, is a rival, if there is a route
 pub path_is_rival : (t : Trip) (height : ℕ → ℕ) → Rises t height → (r : List ℕ) → Path (IsRivalLeg t) t.legs t.from r t.to → (p : List ℕ) → Flies t p → IsRival t r

@@ -5,7 +5,7 @@
 -- rival sees its move; where both stand at one fix, both do. A table has for each two places a lead that the rival can be
 -- sure of from there on: by how much less time it takes to the destination than the route, in the choice that is worst for
 -- the route.
-use Rattle.std.specs.Prelude.{◌≡◌, ℕ, ◌+◌, ◌<◌, ◌≤◌, ◌==◌, cond, List, ◌≢◌}
+use Rattle.std.specs.Prelude.{◌≡◌, ℕ, ◌+◌, ◌<◌, ◌≤◌, ◌==◌, cond, List, length, ◌≢◌}
 use Rattle.chart.specs.declared.leg.Leg.{Leg}
 use Rattle.chart.specs.Legs.{at}
 use Rattle.chart.specs.Routes.{In, Leads}
@@ -17,15 +17,44 @@ use Rattle.pursuit.specs.Rivals.{IsRouteLeg, IsRivalLeg, Path}
 abbrev pub beside : List Leg → ℕ → ℕ → ℕ
 beside legs e f = cond (f == e) (at legs f).high (at legs f).low
 
--- The next move from the two places keeps the lead x, as the table `lead` stands: the route is at a, and the rival at b.
--- Leads count from `offset`, so that a number may stand for a lead below zero. A lead of 0 says nothing: from there the
--- rival may have no way on.
+-- Leads count from an offset, so that a number may stand for a lead below zero. A lead of 0 says nothing: from there the rival
+-- may have no way on. The route is at a, and the rival at b.
+
+-- the lead x is kept where the route takes the leg e
+abbrev pub RouteKeeps : Trip → (ℕ → ℕ → ℕ) → ℕ → ℕ → ℕ → Type 0
+RouteKeeps t lead b x e = 1 ≤ x → IsRouteLeg t e → (1 ≤ lead (at t.legs e).to b) × (x ≤ lead (at t.legs e).to b + (at t.legs e).high)
+
+-- it is kept by whichever leg the route takes
+abbrev pub RouteMoves : Trip → (ℕ → ℕ → ℕ) → ℕ → ℕ → ℕ → Type 0
+RouteMoves t lead a b x = (e : ℕ) → e < length t.legs → (at t.legs e).from ≡ a → RouteKeeps t lead b x e
+
+-- it is kept where the rival takes the leg f
+abbrev pub RivalKeeps : Trip → (ℕ → ℕ → ℕ) → ℕ → ℕ → ℕ → Type 0
+RivalKeeps t lead a x f = 1 ≤ x → IsRivalLeg t f × (x + (at t.legs f).low ≤ lead a (at t.legs f).to)
+
+-- it is kept by some leg of the rival
+abbrev pub RivalMoves : Trip → (ℕ → ℕ → ℕ) → ℕ → ℕ → ℕ → Type 0
+RivalMoves t lead a b x = 1 ≤ x → (f : ℕ) × ((at t.legs f).from ≡ b) × RivalKeeps t lead a x f
+
+-- where both leave one fix, it is kept where the route takes the leg e and the rival f
+abbrev pub ReplyKeeps : Trip → (ℕ → ℕ → ℕ) → ℕ → ℕ → ℕ → Type 0
+ReplyKeeps t lead e x f = 1 ≤ x → IsRivalLeg t f × (1 ≤ lead (at t.legs e).to (at t.legs f).to) × (x + beside t.legs e f ≤ lead (at t.legs e).to (at t.legs f).to + (at t.legs e).high)
+
+-- where both leave a, and the route takes the leg e, it is kept by some leg of the rival
+abbrev pub RepliesTo : Trip → (ℕ → ℕ → ℕ) → ℕ → ℕ → ℕ → Type 0
+RepliesTo t lead a x e = 1 ≤ x → IsRouteLeg t e → (f : ℕ) × ((at t.legs f).from ≡ a) × ReplyKeeps t lead e x f
+
+-- and it is so whichever leg the route takes
+abbrev pub BothMove : Trip → (ℕ → ℕ → ℕ) → ℕ → ℕ → Type 0
+BothMove t lead a x = (e : ℕ) → e < length t.legs → (at t.legs e).from ≡ a → RepliesTo t lead a x e
+
+-- the next move keeps the lead x
 pub record Supported (t : Trip) (height : ℕ → ℕ) (offset : ℕ) (lead : ℕ → ℕ → ℕ) (a b x : ℕ) : Type 0 where
   pub both_arrived : a ≡ t.to → b ≡ t.to → x ≤ offset
   pub rival_past : a ≡ t.to → a ≢ b → height a ≤ height b → x ≡ 0
-  pub route_moves : a ≢ b → height a ≤ height b → 1 ≤ x → (e : ℕ) → IsRouteLeg t e → (at t.legs e).from ≡ a → (1 ≤ lead (at t.legs e).to b) × (x ≤ lead (at t.legs e).to b + (at t.legs e).high)
-  pub rival_moves : height b < height a → 1 ≤ x → (f : ℕ) × IsRivalLeg t f × ((at t.legs f).from ≡ b) × (x + (at t.legs f).low ≤ lead a (at t.legs f).to)
-  pub both_move : a ≡ b → 1 ≤ x → (e : ℕ) → IsRouteLeg t e → (at t.legs e).from ≡ a → (f : ℕ) × IsRivalLeg t f × ((at t.legs f).from ≡ a) × (1 ≤ lead (at t.legs e).to (at t.legs f).to) × (x + beside t.legs e f ≤ lead (at t.legs e).to (at t.legs f).to + (at t.legs e).high)
+  pub route_moves : a ≢ b → height a ≤ height b → RouteMoves t lead a b x
+  pub rival_moves : height b < height a → RivalMoves t lead a b x
+  pub both_move : a ≡ b → BothMove t lead a x
 
 -- every leg leads to a higher fix, but for those that no route and no rival has
 abbrev pub Rises : Trip → (ℕ → ℕ) → Type 0

@@ -6,14 +6,18 @@ use Rattle.chart.specs.declared.row.Standing.TheVariants.{Open}
 use Rattle.chart.specs.Legs.{at}
 use Rattle.chart.specs.Regret.{Trip, Flies}
 
--- The leg k may be on a route of the trip: it is open, and neither enters the departure nor leaves the destination.
+-- the leg may be on a route from s to t: it is open, and neither enters s nor leaves t
+pub record Serves (s t : ℕ) (leg : Leg) : Type 0 where
+  pub stands : leg.standing ≡ Open
+  pub enters : leg.to ≢ s
+  pub leaves : leg.from ≢ t
+
+-- k is the number of a leg that may be on a route of the trip
 pub record IsRouteLeg (t : Trip) (k : ℕ) : Type 0 where
   pub there : k < length t.legs
-  pub stands : (at t.legs k).standing ≡ Open
-  pub enters : (at t.legs k).to ≢ t.from
-  pub leaves : (at t.legs k).from ≢ t.to
+  pub serves : Serves t.from t.to (at t.legs k)
 
--- the leg k may be on a rival
+-- and k is the number of one that may be on a rival
 abbrev pub IsRivalLeg : Trip → ℕ → Type 0
 IsRivalLeg = IsRouteLeg
 

@@ -1,5 +1,9 @@
-// The pursuit bound of a chain: a regret that every route which begins with the chain has at least, on charts whose legs rise
-// in an order of the fixes.
+// The pursuit bound of a chain: a regret that every route which begins with the chain has at least, on charts where every leg
+// leads to a higher fix, for some heights.
 #![tactic(auto)]
 
+mod heights;
+mod leads;
+mod legs;
+mod moves;
 pub mod parts;

@@ -1,0 +1,9 @@
+use Rattle.chart.specs.Regret.{trip}
+use Rattle.search.specs.Snapshots.{legs_of}
+use Rattle.pursuit.specs.Pursuits.{RivalKeeps}
+use Rattle.pursuit.specs.Tables.{lead_at}
+use Rattle.pursuit.proofs.Reading.{Found}
+use Rattle.pursuit.proofs.moves.rival_moves.Given as goal
+
+abbrev pub invariant-loop-f : goal.invariant-loop-f
+invariant-loop-f l = Found (legs_of l.snapshot) l.b (RivalKeeps (trip (legs_of l.snapshot) l.ends.from l.ends.to) (lead_at l.leads) l.a) l.most l.f-iterator

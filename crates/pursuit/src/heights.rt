@@ -1,0 +1,64 @@
+// A height for each fix, so that every leg leads to a higher fix.
+ghost use Rattle.std.specs.Prelude.{◌≡◌, MatchBool};
+ghost use Rattle.chart.specs.Regret.{trip};
+ghost use Rattle.search.specs.Snapshots.{legs_of};
+ghost use Rattle.pursuit.specs.Pursuits.{Rises};
+ghost use Rattle.pursuit.specs.Tables.{height_at};
+
+use super::legs::route_leg;
+use chart::charts::Chart;
+use chart::ends::Ends;
+use chart::limits::MAX_FIXES;
+use search::snapshot::Snapshot;
+
+// The height of a fix.
+pub(crate) fn height_of(heights: &[u16], fix: u16) -> u16
+    ensures { result ≡ height_at heights.now fix }
+{
+    heights.get(fix as usize).copied().unwrap_or(0)
+}
+
+// Lifts each fix that a leg leads to above the fix that the leg leaves, and says whether any was lifted. No fix is lifted
+// higher than there are fixes.
+fn lift(snapshot: &Snapshot, ends: Ends, heights: &mut [u16]) -> bool {
+    let mut lifted = false;
+    for k in 0..snapshot.m() {
+        let Some(leg) = route_leg(snapshot, ends, k) else {
+            continue;
+        };
+        let from = height_of(heights, leg.from);
+        if height_of(heights, leg.to) > from || from >= snapshot.n() {
+            continue;
+        }
+        if let Some(height) = heights.get_mut(leg.to as usize) {
+            *height = from + 1;
+            lifted = true;
+        }
+    }
+    lifted
+}
+
+// Heights that fit the chart if any do. Nothing is promised of them, since they are checked.
+pub(crate) fn find_heights(snapshot: &Snapshot, ends: Ends) -> [u16; MAX_FIXES] {
+    let mut heights = [0; MAX_FIXES];
+    for _ in 0..snapshot.n() {
+        if !lift(snapshot, ends, &mut heights) {
+            return heights;
+        }
+    }
+    heights
+}
+
+// Whether every leg leads to a higher fix.
+pub(crate) fn rises(snapshot: &Snapshot, ends: Ends, heights: &[u16]) -> bool
+    ensures { MatchBool result (Rises (trip (legs_of snapshot.now) ends.from ends.to) (height_at heights.now)) (Rises (trip (legs_of snapshot.now) ends.from ends.to) (height_at heights.now) → ⊥) }
+{
+    for k in 0..snapshot.m() {
+        if let Some(leg) = route_leg(snapshot, ends, k)
+            && height_of(heights, leg.to) <= height_of(heights, leg.from)
+        {
+            return false;
+        }
+    }
+    true
+}

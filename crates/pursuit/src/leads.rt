@@ -1,0 +1,29 @@
+// A table of leads: for each two places of route and rival one.
+ghost use Rattle.std.specs.Prelude.{◌≡◌};
+ghost use Rattle.pursuit.specs.Tables.{lead_at};
+
+use chart::limits::MAX_FIXES;
+
+// A place for each two fixes.
+pub(crate) const MAX_LEADS: usize = MAX_FIXES * MAX_FIXES;
+
+// The lead of 0 seconds. It is more than any route takes, so that a lead below zero is a number too.
+pub(crate) const OFFSET: u32 = 1 << 25;
+
+// The lead where the route has no way on: no route of a chart takes so long that a lower lead could be mistaken for it.
+pub(crate) const ENDLESS: u32 = 1 << 28;
+
+// The lead of the route at `a` and the rival at `b`.
+#[tactic(auto, using(crate::proofs::Reading::lead_there, crate::proofs::Reading::lead_past_route, crate::proofs::Reading::lead_past_rival))]
+pub(crate) fn lead_between(leads: &[u32], a: u16, b: u16) -> u32
+    ensures { result ≡ lead_at leads.now a b }
+{
+    let (a, b) = (a as usize, b as usize);
+    if a >= MAX_FIXES {
+        return 0;
+    }
+    if b >= MAX_FIXES {
+        return 0;
+    }
+    leads.get(MAX_FIXES * a + b).copied().unwrap_or(0)
+}
