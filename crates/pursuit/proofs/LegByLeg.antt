@@ -9,10 +9,10 @@ use Rattle.pursuit.specs.Pursuits.{RouteKeeps, RouteMoves, RivalKeeps, RivalMove
 use Rattle.pursuit.proofs.Reading.{Passed, passed_start, passed_here, passed_on, passed_end}
 
 module _ (t : Trip) (lead : ℕ → ℕ → ℕ) where
-  route_less : (b x y e : ℕ) → y ≤ x → RouteKeeps t lead b x e → RouteKeeps t lead b y e
+  pub route_less : (b x y e : ℕ) → y ≤ x → RouteKeeps t lead b x e → RouteKeeps t lead b y e
   route_less b x y e le k one leg = let h = k (omega arith) leg in (h.0, omega (arith, h.1))
 
-  replies_less : (a x y e : ℕ) → y ≤ x → RepliesTo t lead a x e → RepliesTo t lead a y e
+  pub replies_less : (a x y e : ℕ) → y ≤ x → RepliesTo t lead a x e → RepliesTo t lead a y e
   replies_less a x y e le k one leg =
       let h = k (omega arith) leg in
       (h.0, h.1, λ o. let r = h.2 (omega arith) in (r.0, r.1, omega (arith, r.2)))

@@ -90,6 +90,10 @@ pub record PursuitBound (t : Trip) (ks : List ℕ) (x : ℕ) : Type 0 where
   pub told : 1 ≤ lead v b
   pub over : x + d + offset ≤ time (highs t.legs) ks + lead v b
 
--- no route that begins with a list has less regret than a pursuit bound of the list
+-- no route that begins with the list ks has a regret below x
+abbrev pub IsBelowRegrets : Trip → List ℕ → ℕ → Type 0
+IsBelowRegrets t ks x = (p : List ℕ) → Flies t p → Begins ks p → (y : ℕ) → Regret t p y → x ≤ y
+
+-- no route that begins with a list has a regret below a pursuit bound of the list
 abbrev pub PursuitBoundIsBelowEveryRegret : Type 0
-PursuitBoundIsBelowEveryRegret = (t : Trip) (ks : List ℕ) (x : ℕ) → PursuitBound t ks x → (p : List ℕ) → Flies t p → Begins ks p → (y : ℕ) → Regret t p y → x ≤ y
+PursuitBoundIsBelowEveryRegret = (t : Trip) (ks : List ℕ) (x : ℕ) → PursuitBound t ks x → IsBelowRegrets t ks x

@@ -1,11 +1,16 @@
 -- What the code of a pursuit works on: heights and leads as lists, and single legs.
-use Rattle.std.specs.Prelude.{◌≡◌, ℕ, ◌+◌, ◌*◌, cond, List, Some, None, Option, slice_index_or}
+use Rattle.std.specs.Prelude.{◌≡◌, ℕ, ◌+◌, ◌*◌, ◌<◌, ◌≤◌, Bool, cond, List, Some, None, Option, slice_index_or}
 use Rattle.std.proofs.Math.Dec.{ltb}
 use Rattle.chart.specs.declared.leg.Leg.{Leg}
 use Rattle.chart.specs.Legs.{at}
 use Rattle.chart.specs.Limits.{max_fixes}
 use Rattle.chart.specs.Regret.{Trip}
+use Rattle.regret.specs.declared.walked.Walked.{Walked}
+use Rattle.regret.specs.Marked.{marked_times}
 use Rattle.pursuit.specs.Rivals.{IsRouteLeg}
+use Rattle.pursuit.specs.Pursuits.{Supported, Table, Reaches}
+use Rattle.pursuit.specs.declared.pursuits.Pursuit.{Pursuit}
+use Rattle.pursuit.specs.declared.leads.TheConstants.{OFFSET}
 
 -- the height of the fix v; past the end it is 0
 abbrev pub height_at : List ℕ → ℕ → ℕ
@@ -19,3 +24,32 @@ lead_at leads a b = cond (ltb a max_fixes) (cond (ltb b max_fixes) (slice_index_
 abbrev pub RouteLegRead : Trip → ℕ → Option Leg → Type 0
 RouteLegRead t k None = IsRouteLeg t k → ⊥
 RouteLegRead t k (Some leg) = (leg ≡ at t.legs k) × IsRouteLeg t k
+
+-- each lead of the route at a is kept by the next move
+abbrev pub RowSupported : Trip → (ℕ → ℕ) → ℕ → (ℕ → ℕ → ℕ) → ℕ → Type 0
+RowSupported t height offset lead a = (b : ℕ) → b < max_fixes → Supported t height offset lead a b (lead a b)
+
+-- and so is each lead
+abbrev pub EachSupported : Trip → (ℕ → ℕ) → ℕ → (ℕ → ℕ → ℕ) → Type 0
+EachSupported t height offset lead = (a : ℕ) → a < max_fixes → RowSupported t height offset lead a
+
+-- the time of each leg where the marked legs take their high time and all others their low
+abbrev pub own_high : List Leg → List Bool → ℕ → ℕ
+own_high legs marks k = marked_times marks k (at legs k)
+
+-- the times by which a rival reaches fixes, in the choice w and by legs that leave fixes below the height h, where such a time
+-- is known
+abbrev pub AllReached : Trip → (ℕ → ℕ) → (ℕ → ℕ) → ℕ → List (Option ℕ) → Type 0
+AllReached t height w h times = (b d : ℕ) → slice_index_or times b None ≡ Some d → Reaches t height w h b d
+
+-- heights and leads of the pursuit are a table of the trip
+abbrev pub IsPursuit : Trip → Pursuit → Type 0
+IsPursuit t p = Table t (height_at p.heights) OFFSET (lead_at p.leads)
+
+-- a bound of x at the fix b, above 0, is told by the time of a rival who has reached b and by the lead from there
+pub record Tells (p : Pursuit) (walked : Walked) (times : List (Option ℕ)) (b x : ℕ) : Type 0 where
+  pub time : ℕ
+  pub reached : slice_index_or times b None ≡ Some time
+  pub onward : height_at p.heights walked.end ≤ height_at p.heights b
+  pub told : 1 ≤ lead_at p.leads walked.end b
+  pub over : x + time + OFFSET ≤ walked.high + lead_at p.leads walked.end b

@@ -62,3 +62,18 @@ pub(crate) fn rises(snapshot: &Snapshot, ends: Ends, heights: &[u16]) -> bool
     }
     true
 }
+
+// The fixes of the chart, the highest first. Nothing is promised of the order.
+pub(crate) fn falling_order(snapshot: &Snapshot, heights: &[u16]) -> [u16; MAX_FIXES] {
+    let mut order = [0; MAX_FIXES];
+    let mut count = 0;
+    for height in (0..=snapshot.n()).rev() {
+        for fix in 0..snapshot.n() {
+            if height_of(heights, fix) == height && count < MAX_FIXES {
+                order[count] = fix;
+                count += 1;
+            }
+        }
+    }
+    order
+}

@@ -27,3 +27,14 @@ pub(crate) fn lead_between(leads: &[u32], a: u16, b: u16) -> u32
     }
     leads.get(MAX_FIXES * a + b).copied().unwrap_or(0)
 }
+
+// Sets the lead of the route at `a` and the rival at `b`.
+pub(crate) fn set_lead(leads: &mut [u32], a: u16, b: u16, lead: u32) {
+    let (a, b) = (a as usize, b as usize);
+    if b >= MAX_FIXES {
+        return;
+    }
+    if let Some(place) = leads.get_mut(MAX_FIXES * a + b) {
+        *place = lead;
+    }
+}

@@ -2,8 +2,11 @@
 // leads to a higher fix, for some heights.
 #![tactic(auto)]
 
+pub mod bounds;
 mod heights;
 mod leads;
 mod legs;
 mod moves;
-pub mod parts;
+pub mod pursuits;
+mod reaching;
+mod tables;

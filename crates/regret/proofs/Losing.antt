@@ -44,7 +44,7 @@ best_is_least legs s t marks b best = record {
   least = λ r g. let h = best.every r g in let e = total_is_time legs marks r 0 in omega arith;
 }
 
-marks_worst : (legs : List Leg) (marks : List Bool) (p : List ℕ) → Flags marks p → Worst legs p (chosen legs marks)
+pub marks_worst : (legs : List Leg) (marks : List Bool) (p : List ℕ) → Flags marks p → Worst legs p (chosen legs marks)
 marks_worst legs marks p f = record {
   on = λ k i. ap (λ b. time_by b (at legs k)) (f.on k i);
   off = λ k n. ap (λ b. time_by b (at legs k)) (false_from_ne_true _ (λ e. n (f.back k e)));

@@ -1,0 +1,53 @@
+-- Leads that the next move keeps: none, smaller ones, and all of a table.
+use Rattle.std.proofs.Common.{◌≡◌, ℕ, ◌<◌, ◌≤◌, Bool, true, false, MatchBool, List, sym, refl, ⊎_elim, arith}
+use Rattle.std.proofs.Math.Dec.{leb}
+use Rattle.std.proofs.lemmas.Bool.{cases_lt, leb-true}
+use Rattle.chart.specs.Limits.{max_fixes}
+use Rattle.chart.specs.Regret.{Trip}
+use Rattle.pursuit.specs.Pursuits.{Supported, Rises, Table}
+use Rattle.pursuit.specs.Tables.{lead_at, EachSupported}
+use Rattle.pursuit.proofs.Reading.{lead_past_route, lead_past_rival}
+use Rattle.pursuit.proofs.LegByLeg.{route_less, replies_less}
+
+module _ (t : Trip) (height : ℕ → ℕ) (offset : ℕ) (lead : ℕ → ℕ → ℕ) (a b : ℕ) where
+  -- a lead of 0 needs no support
+  pub none_supports : (x : ℕ) → x ≡ 0 → Supported t height offset lead a b x
+  none_supports x z = record {
+    both_arrived = λ p q. omega arith;
+    rival_past = λ p n l. z;
+    route_moves = λ n l k there from one. absurd (omega arith);
+    rival_moves = λ lt one. absurd (omega arith);
+    both_move = λ s k there from one. absurd (omega arith);
+  }
+
+  -- a smaller lead is kept too
+  less_supports : (x y : ℕ) → y ≤ x → Supported t height offset lead a b x → Supported t height offset lead a b y
+  less_supports x y le s = record {
+    both_arrived = λ p q. let h = s.both_arrived p q in omega arith;
+    rival_past = λ p n l. let h = s.rival_past p n l in omega arith;
+    route_moves = λ n l k there from. route_less t lead b x y k le (s.route_moves n l k there from);
+    rival_moves = λ lt one.
+        let m = s.rival_moves lt (omega arith) in
+        (m.0, m.1, λ o. let k = m.2 (omega arith) in (k.0, omega (arith, k.1)));
+    both_move = λ p k there from. replies_less t lead a x y k le (s.both_move p k there from);
+  }
+
+  -- what a test by ≤ tells of the lead in the table
+  pub told_supports : (x y : ℕ) → x ≡ lead a b → Supported t height offset lead a b y → MatchBool (leb x y) (Supported t height offset lead a b (lead a b)) (Unit {0})
+  told_supports x y e s = by_test (leb x y) refl
+    where
+      by_test : (r : Bool) → leb x y ≡ r → MatchBool r (Supported t height offset lead a b (lead a b)) (Unit {0})
+      by_test true le = less_supports y (lead a b) (let l = leb-true x y le in omega arith) s
+      by_test false le = tt
+
+-- a table in a list, whose rows and columns past the end say nothing
+module _ (t : Trip) (height : ℕ → ℕ) (offset : ℕ) (leads : List ℕ) where
+  pub table_told : Rises t height → EachSupported t height offset (lead_at leads) → Table t height offset (lead_at leads)
+  table_told rises each = record {
+    rises = rises;
+    supported = λ a b.
+        ⊎_elim
+        (λ (p : a < max_fixes). ⊎_elim (λ (q : b < max_fixes). each a p b q) (λ (q : max_fixes ≤ b). none_supports t height offset (lead_at leads) a b _ (sym (lead_past_rival leads a b p q))) (cases_lt b max_fixes))
+        (λ (p : max_fixes ≤ a). none_supports t height offset (lead_at leads) a b _ (sym (lead_past_route leads a b p)))
+        (cases_lt a max_fixes);
+  }

@@ -1,0 +1,41 @@
+// A pursuit on a chart between two ends, made once for many chains.
+ghost use Rattle.std.specs.Prelude.{IfSome};
+ghost use Rattle.chart.specs.Regret.{trip};
+ghost use Rattle.search.specs.Snapshots.{legs_of};
+ghost use Rattle.pursuit.specs.Tables.{IsPursuit};
+
+use super::heights::{falling_order, find_heights};
+use super::leads::MAX_LEADS;
+use super::tables::{fill, is_table};
+use chart::charts::Chart;
+use chart::ends::Ends;
+use chart::limits::MAX_FIXES;
+use search::snapshot::Snapshot;
+
+// Heights and leads, and the fixes of the chart, the highest first.
+#[derive(Drop)]
+pub struct Pursuit {
+    pub(crate) heights: [u16; MAX_FIXES],
+    pub(crate) order: [u16; MAX_FIXES],
+    pub(crate) leads: [u32; MAX_LEADS],
+}
+
+// The pursuit on a chart between two ends, or none where its legs do not rise for any heights.
+pub fn pursue(snapshot: &Snapshot, ends: Ends) -> Option<Pursuit>
+    ensures { IfSome result (IsPursuit (trip (legs_of snapshot.now) ends.from ends.to)) }
+{
+    let heights = find_heights(snapshot, ends);
+    let order = falling_order(snapshot, &heights);
+    let mut leads = [0; MAX_LEADS];
+    if let Some(fixes) = order.get(..snapshot.n() as usize) {
+        fill(snapshot, ends, &heights, fixes, &mut leads);
+    }
+    if !is_table(snapshot, ends, &heights, &leads) {
+        return None;
+    }
+    Some(Pursuit {
+        heights,
+        order,
+        leads,
+    })
+}
