@@ -94,6 +94,7 @@ module _ {s : Sweep} {here : ℕ} (ready : Ready s here) where
             (subst (λ y. Walk t.legs t.from (ks ++ k ∷ []) y (set s.used y true)) (sym is)
             (walk_push t.legs t.from ks here s.used ready.walk k on.1 (omega (arith, is, to_small, ready.useds))));
         sound = ready.sound;
+        pursued = ready.pursued;
       }
 
       pub swept_deeper : {best : Option Best} → Swept (trip_of s) s.best best (Begins chain.items) → Swept (trip_of s) s.best best (GoesOn s.chain.items k)
@@ -121,7 +122,7 @@ module _ {s : Sweep} {here : ℕ} (ready : Ready s here) where
   module _ {s₁ : Sweep} {left : List ℕ} (turns : Turns s here s₁ left) where
     -- it may go on from there
     pub ready_again : Ready s₁ here
-    ready_again = subst (λ (x : Sweep). Ready x here) (sym turns.stands) (record { leaves = ready.leaves; useds = ready.useds; walk = ready.walk; sound = turns.swept.sound })
+    ready_again = subst (λ (x : Sweep). Ready x here) (sym turns.stands) (record { leaves = ready.leaves; useds = ready.useds; walk = ready.walk; sound = turns.swept.sound; pursued = ready.pursued })
 
     pub turns_again : (k : ℕ) (rest : List ℕ) → left ≡ k ∷ rest → (s₂ : Sweep) → Swept (trip_of s₁) s₁.best s₂.best (GoesOn s₁.chain.items k) → BestAlone s₁ s₂ → Turns s here s₂ rest
     turns_again k rest is s₂ turn stands =

@@ -12,10 +12,11 @@ use Rattle.regret.specs.Walks.{Walk}
 use Rattle.regret.proofs.Walks.{walk_start}
 use Rattle.least.specs.declared.sweep.Best.{Best}
 use Rattle.least.specs.declared.sweep.Sweep.{Sweep}
-use Rattle.least.specs.Sweeps.{trip_of, Sound, Swept, Ready, Least}
+use Rattle.least.specs.Sweeps.{trip_of, Sound, Swept, Pursued, Ready, Least}
 
-pub ready_first : (s : Sweep) → s.ends.from < fixes_of s.snapshot.now → s.chain.items ≡ [] → s.used ≡ set (replicate max_fixes false) s.ends.from true → s.best ≡ None → Ready s s.ends.from
-ready_first s leaves none unset nothing = record {
+pub ready_first : (s : Sweep) → s.ends.from < fixes_of s.snapshot.now → s.chain.items ≡ [] → s.used ≡ set (replicate max_fixes false) s.ends.from true → s.best ≡ None → Pursued s → Ready s s.ends.from
+ready_first s leaves none unset nothing pursued = record {
+  pursued = pursued;
   leaves = leaves;
   useds = ap length unset ∙ length-set (replicate max_fixes false) s.ends.from true ∙ length-replicate max_fixes false;
   walk = subst₂ (λ l u. Walk (legs_of s.snapshot.now) s.ends.from l s.ends.from u) (sym none) (sym unset)

@@ -1,10 +1,11 @@
 -- The best route so far, and what a part of the search does to it.
-use Rattle.std.specs.Prelude.{◌≡◌, ℕ, ◌<◌, ◌⊎◌, List, ◌∷◌, ◌++◌, length, Some, None, Option}
+use Rattle.std.specs.Prelude.{◌≡◌, ℕ, ◌<◌, ◌⊎◌, List, ◌∷◌, ◌++◌, length, Some, None, Option, IfSome}
 use Rattle.chart.specs.Limits.{max_fixes}
 use Rattle.chart.specs.Regret.{Trip, trip, Flies, Regret, Beats, LeastRegret}
 use Rattle.chart.specs.Floors.{Begins}
 use Rattle.search.specs.Snapshots.{fixes_of, legs_of}
 use Rattle.regret.specs.Walks.{Walk}
+use Rattle.pursuit.specs.Tables.{IsPursuit}
 use Rattle.least.specs.declared.sweep.Best.{Best}
 use Rattle.least.specs.declared.sweep.Sweep.{Sweep}
 
@@ -53,12 +54,17 @@ GoesBelow ks limit q = (k : ℕ) × (k < limit) × GoesOn ks k q
 abbrev pub Hopeless : Trip → List ℕ → Option Best → Type 0
 Hopeless t ks best = (q : List ℕ) → Flies t q → Begins ks q → Covers t best q
 
+-- where the search has a pursuit, it is one of its trip
+abbrev pub Pursued : Sweep → Type 0
+Pursued s = IfSome s.pursuit (λ p. IsPursuit (trip_of s) p.now)
+
 -- the search is at the fix `here`, where its chain ends, and just the fixes of the chain are used
 pub record Ready (s : Sweep) (here : ℕ) : Type 0 where
   pub leaves : s.ends.from < fixes_of s.snapshot.now
   pub useds : length s.used ≡ max_fixes
   pub walk : Walk (legs_of s.snapshot.now) s.ends.from s.chain.items here s.used
   pub sound : Sound (trip_of s) s.best
+  pub pursued : Pursued s
 
 -- the best is the route of least regret, or there is none and there is no route
 abbrev pub Least : Trip → Option Best → Type 0

@@ -1,7 +1,8 @@
 // The route of least regret, written into the caller's memory.
-ghost use Rattle.std.specs.Prelude.{◌≡◌};
+ghost use Rattle.std.specs.Prelude.{◌≡◌, ◌<◌, IfSome};
 ghost use Rattle.chart.specs.Regret.{trip, LeastRegretIsUnique};
-ghost use Rattle.search.specs.Snapshots.{legs_of};
+ghost use Rattle.search.specs.Snapshots.{fixes_of, legs_of};
+ghost use Rattle.pursuit.specs.Tables.{IsPursuit};
 ghost use Rattle.least.specs.Sweeps.{Least};
 ghost use Rattle.least.specs.Answers.{RouteAnswer};
 
@@ -13,7 +14,28 @@ use chart::charts::Chart;
 use chart::ends::Ends;
 use chart::limits::MAX_FIXES;
 use chart::routes::most_legs;
+use pursuit::pursuits::{Pursuit, pursue};
 use search::snapshot::Snapshot;
+
+// The best of all routes between two ends, by a search with the pursuit, if there is one.
+fn find_with<'a>(snapshot: &'a Snapshot, ends: Ends, pursuit: Option<&'a Pursuit>) -> Option<Best>
+    requires leaves { ends.from < fixes_of snapshot.now }
+    requires pursued { IfSome pursuit (λ p. IsPursuit (trip (legs_of snapshot.now) ends.from ends.to) p.now) }
+    ensures { Least (trip (legs_of snapshot.now) ends.from ends.to) result }
+{
+    let mut used = [false; MAX_FIXES];
+    used[ends.from as usize] = true;
+    let mut sweep = Sweep {
+        snapshot,
+        ends,
+        pursuit,
+        chain: ArrayVec::new(),
+        used,
+        best: None,
+    };
+    sweep.explore(ends.from);
+    sweep.best
+}
 
 // The best of all routes between two ends, and its regret.
 fn find(snapshot: &Snapshot, ends: Ends) -> Option<Best>
@@ -22,17 +44,8 @@ fn find(snapshot: &Snapshot, ends: Ends) -> Option<Best>
     if ends.from >= snapshot.n() {
         return None;
     }
-    let mut used = [false; MAX_FIXES];
-    used[ends.from as usize] = true;
-    let mut sweep = Sweep {
-        snapshot,
-        ends,
-        chain: ArrayVec::new(),
-        used,
-        best: None,
-    };
-    sweep.explore(ends.from);
-    sweep.best
+    let pursuit = pursue(snapshot, ends);
+    find_with(snapshot, ends, pursuit.as_ref())
 }
 
 // Writes the route of least regret between two ends into the first places of the memory. There are to be as many places as

@@ -4,6 +4,7 @@ ghost use Rattle.std.specs.Prelude.{◌≡◌};
 use arrayvec::ArrayVec;
 use chart::ends::Ends;
 use chart::limits::MAX_FIXES;
+use pursuit::pursuits::Pursuit;
 use search::snapshot::Snapshot;
 
 // A route and its regret.
@@ -28,6 +29,7 @@ impl Best {
 pub(crate) struct Sweep<'a> {
     pub(crate) snapshot: &'a Snapshot,
     pub(crate) ends: Ends,
+    pub(crate) pursuit: Option<&'a Pursuit>,
     pub(crate) chain: ArrayVec<u16, MAX_FIXES>,
     pub(crate) used: [bool; MAX_FIXES],
     pub(crate) best: Option<Best>,

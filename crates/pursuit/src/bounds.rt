@@ -50,7 +50,7 @@ pub fn bound(snapshot: &Snapshot, ends: Ends, pursuit: &Pursuit, chain: &[u16]) 
         snapshot,
         ends,
         &pursuit.heights,
-        &pursuit.order,
+        pursuit.order.as_slice(),
         &walked.marks,
         below,
     );

@@ -6,6 +6,7 @@ ghost use Rattle.pursuit.specs.Pursuits.{Rises};
 ghost use Rattle.pursuit.specs.Tables.{height_at};
 
 use super::legs::route_leg;
+use arrayvec::ArrayVec;
 use chart::charts::Chart;
 use chart::ends::Ends;
 use chart::limits::MAX_FIXES;
@@ -64,14 +65,12 @@ pub(crate) fn rises(snapshot: &Snapshot, ends: Ends, heights: &[u16]) -> bool
 }
 
 // The fixes of the chart, the highest first. Nothing is promised of the order.
-pub(crate) fn falling_order(snapshot: &Snapshot, heights: &[u16]) -> [u16; MAX_FIXES] {
-    let mut order = [0; MAX_FIXES];
-    let mut count = 0;
+pub(crate) fn falling_order(snapshot: &Snapshot, heights: &[u16]) -> ArrayVec<u16, MAX_FIXES> {
+    let mut order = ArrayVec::new();
     for height in (0..=snapshot.n()).rev() {
         for fix in 0..snapshot.n() {
-            if height_of(heights, fix) == height && count < MAX_FIXES {
-                order[count] = fix;
-                count += 1;
+            if height_of(heights, fix) == height && !order.is_full() {
+                order.push(fix);
             }
         }
     }

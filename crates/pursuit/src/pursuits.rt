@@ -7,7 +7,7 @@ ghost use Rattle.pursuit.specs.Tables.{IsPursuit};
 use super::heights::{falling_order, find_heights};
 use super::leads::MAX_LEADS;
 use super::tables::{fill, is_table};
-use chart::charts::Chart;
+use arrayvec::ArrayVec;
 use chart::ends::Ends;
 use chart::limits::MAX_FIXES;
 use search::snapshot::Snapshot;
@@ -16,7 +16,7 @@ use search::snapshot::Snapshot;
 #[derive(Drop)]
 pub struct Pursuit {
     pub(crate) heights: [u16; MAX_FIXES],
-    pub(crate) order: [u16; MAX_FIXES],
+    pub(crate) order: ArrayVec<u16, MAX_FIXES>,
     pub(crate) leads: [u32; MAX_LEADS],
 }
 
@@ -27,9 +27,7 @@ pub fn pursue(snapshot: &Snapshot, ends: Ends) -> Option<Pursuit>
     let heights = find_heights(snapshot, ends);
     let order = falling_order(snapshot, &heights);
     let mut leads = [0; MAX_LEADS];
-    if let Some(fixes) = order.get(..snapshot.n() as usize) {
-        fill(snapshot, ends, &heights, fixes, &mut leads);
-    }
+    fill(snapshot, ends, &heights, order.as_slice(), &mut leads);
     if !is_table(snapshot, ends, &heights, &leads) {
         return None;
     }
