@@ -1,6 +1,8 @@
 -- Paths put together, paths in an order in which their legs rise, and the legs of a route as a path.
-use Rattle.std.proofs.Common.{◌≡◌, ℕ, ◌+◌, ◌<◌, ◌≤◌, List, [], ◌∷◌, ◌++◌, sym, refl, subst, inl, inr, ⊎_elim, arith}
+use Rattle.std.proofs.Common.{◌≡◌, ℕ, ◌+◌, ◌<◌, ◌≤◌, ◌≢◌, List, [], ◌∷◌, ◌++◌, sym, refl, ◌∙◌, subst, inl, inr, ⊎_elim, arith}
 use Rattle.chart.specs.declared.leg.Leg.{Leg}
+use Rattle.chart.specs.declared.row.Standing.{Standing}
+use Rattle.chart.specs.declared.row.Standing.TheVariants.{Open, Closed}
 use Rattle.chart.specs.Legs.{at}
 use Rattle.chart.specs.Routes.{Leaves, Leads, entered, met, In, Once, Chain}
 use Rattle.chart.specs.Regret.{Trip, Flies}
@@ -84,15 +86,26 @@ route_legs t p flies k i =
       };
     }
 
--- What is known of rivals. Where rivals are more than the routes, these two change.
+-- What is known of rivals. Where rivals are more than the routes, these change.
+
+open_not_closed : (s : Standing) → s ≡ Open → s ≢ Closed
+open_not_closed s e c = let d : Open ≡ Closed = sym e ∙ c in cc
+
+not_closed_open : (s : Standing) → s ≢ Closed → s ≡ Open
+not_closed_open Open n = refl
+not_closed_open Closed n = absurd (n refl)
 
 -- a leg that may be on a route may be on a rival
 pub route_leg_is_rival_leg : (t : Trip) (k : ℕ) → IsRouteLeg t k → IsRivalLeg t k
-route_leg_is_rival_leg t k l = l
+route_leg_is_rival_leg t k l = record {
+  there = l.there;
+  serves = record { stands = open_not_closed (at t.legs k).standing l.serves.stands; enters = l.serves.enters; leaves = l.serves.leaves };
+}
 
 path_leads : (t : Trip) (ks : List ℕ) (a z : ℕ) → Path (IsRivalLeg t) t.legs a ks z → Leads t.legs a ks z
 path_leads t [] a z e = e
-path_leads t (k ∷ ks) a z h = (record { there = h.0.there; stands = h.0.serves.stands; from = h.1 }, path_leads t ks (at t.legs k).to z h.2)
+path_leads t (k ∷ ks) a z h =
+    (record { there = h.0.there; stands = not_closed_open (at t.legs k).standing h.0.serves.stands; from = h.1 }, path_leads t ks (at t.legs k).to z h.2)
 
 -- a path of rivals' legs that rise, from the departure to the destination, is a rival, if there is a route
 pub path_is_rival : (t : Trip) (height : ℕ → ℕ) → Rises t height → (r : List ℕ) → Path (IsRivalLeg t) t.legs t.from r t.to → (p : List ℕ) → Flies t p → IsRival t r

@@ -8,10 +8,10 @@ use Rattle.chart.specs.Routes.{In}
 use Rattle.chart.specs.Regret.{Trip, time}
 use Rattle.chart.proofs.Chains.{in_end}
 use Rattle.regret.proofs.Losing.{time_join}
-use Rattle.pursuit.specs.Rivals.{IsRouteLeg, IsRivalLeg, Path}
+use Rattle.pursuit.specs.Rivals.{IsRivalLeg, Path}
 use Rattle.pursuit.specs.Pursuits.{Reaches}
 use Rattle.pursuit.specs.Tables.{AllReached}
-use Rattle.pursuit.proofs.Paths.{path_join, route_leg_is_rival_leg}
+use Rattle.pursuit.proofs.Paths.{path_join}
 
 cases_ne : (x y : ℕ) → (x ≢ y) ⊎ (x ≡ y)
 cases_ne x y = ⊎_elim inr inl (cases_eq x y)
@@ -58,9 +58,9 @@ module _ (t : Trip) (height w : ℕ → ℕ) (h : ℕ) where
   all_start n = all_on (replicate n None) (λ b d e. absurd (none_some d (sym (unset n b) ∙ e))) t.from 0 reaches_start
 
   -- a leg is taken
-  pub all_taken : (times : List (Option ℕ)) → AllReached t height w h times → (k : ℕ) (leg : Leg) → leg ≡ at t.legs k → IsRouteLeg t k → height leg.from < h → (d x : ℕ) → Some d ≡ get_or times leg.from None → x ≡ d + w k → AllReached t height w h (set times leg.to (Some x))
-  all_taken times all k leg is route lt d x known sum =
+  pub all_taken : (times : List (Option ℕ)) → AllReached t height w h times → (k : ℕ) (leg : Leg) → leg ≡ at t.legs k → IsRivalLeg t k → height leg.from < h → (d x : ℕ) → Some d ≡ get_or times leg.from None → x ≡ d + w k → AllReached t height w h (set times leg.to (Some x))
+  all_taken times all k leg is rival lt d x known sum =
       let from : (at t.legs k).from ≡ leg.from = ap (λ (l : Leg). l.from) (sym is) in
       let to : (at t.legs k).to ≡ leg.to = ap (λ (l : Leg). l.to) (sym is) in
-      let r = reaches_on leg.from d k (all leg.from d (sym known)) (route_leg_is_rival_leg t k route) from lt in
+      let r = reaches_on leg.from d k (all leg.from d (sym known)) rival from lt in
       all_on times all leg.to x (subst (λ y. Reaches t height w h y x) to (subst (λ y. Reaches t height w h (at t.legs k).to y) (sym sum) r))

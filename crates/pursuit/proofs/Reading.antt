@@ -11,8 +11,7 @@ use Rattle.chart.specs.Regret.{Trip}
 use Rattle.chart.proofs.Numbers.{numbered_some, numbered_not}
 use Rattle.search.specs.Index.{leaving}
 use Rattle.search.proofs.Leaving.{leaving_goes_on, leaving_ends}
-use Rattle.pursuit.specs.Rivals.{IsRouteLeg, Serves}
-use Rattle.pursuit.specs.Tables.{lead_at, RouteLegRead}
+use Rattle.pursuit.specs.Tables.{lead_at, LegRead}
 
 module _ (leads : List ℕ) (a b : ℕ) where
   pub lead_there : a < max_fixes → b < max_fixes → get_or leads (max_fixes * a + b) 0 ≡ lead_at leads a b
@@ -31,16 +30,17 @@ module _ (leads : List ℕ) (a b : ℕ) where
       let x : lead_at leads a b ≡ cond (ltb b max_fixes) (get_or leads (max_fixes * a + b) 0) 0 = ap (λ r. cond r (cond (ltb b max_fixes) (get_or leads (max_fixes * a + b) 0) 0) 0) (lt-ltb a max_fixes p) in
       sym (x ∙ ap (λ r. cond r (get_or leads (max_fixes * a + b) 0) 0) (le-ltb b max_fixes q))
 
-module _ (t : Trip) (k : ℕ) where
-  pub no_leg_read : None ≡ numbered t.legs k → RouteLegRead t k None
+-- a leg that was read, and tested for whether it serves
+module _ (S : ℕ → ℕ → Leg → Type 0) (t : Trip) (k : ℕ) where
+  pub no_leg_read : None ≡ numbered t.legs k → LegRead S t k None
   no_leg_read e l = numbered_not t.legs k l.there (sym e)
 
   module _ (leg : Leg) (is : Some leg ≡ numbered t.legs k) where
-    pub leg_serves : Serves t.from t.to leg → RouteLegRead t k (Some leg)
-    leg_serves s = let r = numbered_some t.legs k leg is in (r.1, record { there = r.0; serves = subst (λ l. Serves t.from t.to l) r.1 s })
+    pub leg_serves : S t.from t.to leg → LegRead S t k (Some leg)
+    leg_serves s = let r = numbered_some t.legs k leg is in (r.1, record { there = r.0; serves = subst (λ l. S t.from t.to l) r.1 s })
 
-    pub leg_not_served : (Serves t.from t.to leg → ⊥) → RouteLegRead t k None
-    leg_not_served n l = let r = numbered_some t.legs k leg is in n (subst (λ l. Serves t.from t.to l) (sym r.1) l.serves)
+    pub leg_not_served : (S t.from t.to leg → ⊥) → LegRead S t k None
+    leg_not_served n l = let r = numbered_some t.legs k leg is in n (subst (λ l. S t.from t.to l) (sym r.1) l.serves)
 
 -- In a loop over the legs that leave the fix v, where `left` are still to come, P holds of those that have passed.
 pub record Passed (legs : List Leg) (v : ℕ) (P : ℕ → Type 0) (left : List ℕ) : Type 0 where

@@ -1,25 +1,34 @@
 -- Routes and rivals as paths of legs. A rival is a list of legs against which the regret of a route is measured: today the
--- rivals are the routes. What is said of rivals names `IsRivalLeg` and `IsRival`, so that they may later be more.
+-- rivals are the routes. What is said of rivals names `IsRivalLeg` and `IsRival`, so that they may come to be more than the
+-- routes: what is not closed serves a rival, and what is open serves a route.
 use Rattle.std.specs.Prelude.{◌≡◌, ℕ, ◌<◌, List, [], ◌∷◌, length, ◌≢◌}
 use Rattle.chart.specs.declared.leg.Leg.{Leg}
-use Rattle.chart.specs.declared.row.Standing.TheVariants.{Open}
+use Rattle.chart.specs.declared.row.Standing.TheVariants.{Open, Closed}
 use Rattle.chart.specs.Legs.{at}
 use Rattle.chart.specs.Regret.{Trip, Flies}
 
--- the leg may be on a route from s to t: it is open, and neither enters s nor leaves t
-pub record Serves (s t : ℕ) (leg : Leg) : Type 0 where
+-- the leg may be on a route from s to t: no route enters its departure or leaves its destination
+pub record ServesRoute (s t : ℕ) (leg : Leg) : Type 0 where
   pub stands : leg.standing ≡ Open
   pub enters : leg.to ≢ s
   pub leaves : leg.from ≢ t
 
--- k is the number of a leg that may be on a route of the trip
-pub record IsRouteLeg (t : Trip) (k : ℕ) : Type 0 where
-  pub there : k < length t.legs
-  pub serves : Serves t.from t.to (at t.legs k)
+-- the leg may be on a rival from s to t
+pub record ServesRival (s t : ℕ) (leg : Leg) : Type 0 where
+  pub stands : leg.standing ≢ Closed
+  pub enters : leg.to ≢ s
+  pub leaves : leg.from ≢ t
 
--- and k is the number of one that may be on a rival
+-- k is the number of a leg that serves the trip as S says
+pub record IsLegFor (S : ℕ → ℕ → Leg → Type 0) (t : Trip) (k : ℕ) : Type 0 where
+  pub there : k < length t.legs
+  pub serves : S t.from t.to (at t.legs k)
+
+abbrev pub IsRouteLeg : Trip → ℕ → Type 0
+IsRouteLeg = IsLegFor ServesRoute
+
 abbrev pub IsRivalLeg : Trip → ℕ → Type 0
-IsRivalLeg = IsRouteLeg
+IsRivalLeg = IsLegFor ServesRival
 
 -- the legs ks are a rival to the routes of the trip
 abbrev pub IsRival : Trip → List ℕ → Type 0

@@ -7,7 +7,7 @@ use Rattle.chart.specs.Limits.{max_fixes}
 use Rattle.chart.specs.Regret.{Trip}
 use Rattle.regret.specs.declared.walked.Walked.{Walked}
 use Rattle.regret.specs.Marked.{marked_times}
-use Rattle.pursuit.specs.Rivals.{IsRouteLeg}
+use Rattle.pursuit.specs.Rivals.{IsLegFor}
 use Rattle.pursuit.specs.Pursuits.{Supported, Table, Reaches}
 use Rattle.pursuit.specs.declared.pursuits.Pursuit.{Pursuit}
 use Rattle.pursuit.specs.declared.leads.TheConstants.{OFFSET}
@@ -20,10 +20,10 @@ height_at heights v = slice_index_or heights v 0
 unfoldable pub lead_at : List ℕ → ℕ → ℕ → ℕ
 lead_at leads a b = cond (ltb a max_fixes) (cond (ltb b max_fixes) (slice_index_or leads (max_fixes * a + b) 0) 0) 0
 
--- the leg of the number k, where it may be on a route
-abbrev pub RouteLegRead : Trip → ℕ → Option Leg → Type 0
-RouteLegRead t k None = IsRouteLeg t k → ⊥
-RouteLegRead t k (Some leg) = (leg ≡ at t.legs k) × IsRouteLeg t k
+-- the leg of the number k, where it serves the trip as S says
+abbrev pub LegRead : (ℕ → ℕ → Leg → Type 0) → Trip → ℕ → Option Leg → Type 0
+LegRead S t k None = IsLegFor S t k → ⊥
+LegRead S t k (Some leg) = (leg ≡ at t.legs k) × IsLegFor S t k
 
 -- each lead of the route at a is kept by the next move
 abbrev pub RowSupported : Trip → (ℕ → ℕ) → ℕ → (ℕ → ℕ → ℕ) → ℕ → Type 0

@@ -5,7 +5,7 @@ ghost use Rattle.search.specs.Snapshots.{legs_of};
 ghost use Rattle.pursuit.specs.Pursuits.{Rises};
 ghost use Rattle.pursuit.specs.Tables.{height_at};
 
-use super::legs::route_leg;
+use super::legs::rival_leg;
 use arrayvec::ArrayVec;
 use chart::charts::Chart;
 use chart::ends::Ends;
@@ -24,7 +24,7 @@ pub(crate) fn height_of(heights: &[u16], fix: u16) -> u16
 fn lift(snapshot: &Snapshot, ends: Ends, heights: &mut [u16]) -> bool {
     let mut lifted = false;
     for k in 0..snapshot.m() {
-        let Some(leg) = route_leg(snapshot, ends, k) else {
+        let Some(leg) = rival_leg(snapshot, ends, k) else {
             continue;
         };
         let from = height_of(heights, leg.from);
@@ -55,7 +55,7 @@ pub(crate) fn rises(snapshot: &Snapshot, ends: Ends, heights: &[u16]) -> bool
     ensures { MatchBool result (Rises (trip (legs_of snapshot.now) ends.from ends.to) (height_at heights.now)) (Rises (trip (legs_of snapshot.now) ends.from ends.to) (height_at heights.now) → ⊥) }
 {
     for k in 0..snapshot.m() {
-        if let Some(leg) = route_leg(snapshot, ends, k)
+        if let Some(leg) = rival_leg(snapshot, ends, k)
             && height_of(heights, leg.to) <= height_of(heights, leg.from)
         {
             return false;

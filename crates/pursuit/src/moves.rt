@@ -7,7 +7,7 @@ ghost use Rattle.pursuit.specs.Pursuits.{RouteKeeps, RouteMoves, RivalKeeps, Riv
 ghost use Rattle.pursuit.specs.Tables.{lead_at};
 
 use super::leads::{ENDLESS, lead_between};
-use super::legs::route_leg;
+use super::legs::{rival_leg, route_leg};
 use chart::ends::Ends;
 use chart::leg::Leg;
 use search::snapshot::Snapshot;
@@ -40,7 +40,7 @@ pub(crate) fn route_moves(snapshot: &Snapshot, ends: Ends, leads: &[u32], a: u16
 fn rival_keeps(snapshot: &Snapshot, ends: Ends, leads: &[u32], a: u16, f: u16) -> u32
     ensures { RivalKeeps (trip (legs_of snapshot.now) ends.from ends.to) (lead_at leads.now) a result f }
 {
-    match route_leg(snapshot, ends, f) {
+    match rival_leg(snapshot, ends, f) {
         None => 0,
         Some(leg) => lead_between(leads, a, leg.to).saturating_sub(leg.low),
     }
@@ -62,7 +62,7 @@ fn reply_keeps(snapshot: &Snapshot, ends: Ends, leads: &[u32], e: u16, leg: &Leg
     requires { leg.now ≡ at (legs_of snapshot.now) e }
     ensures { ReplyKeeps (trip (legs_of snapshot.now) ends.from ends.to) (lead_at leads.now) e result f }
 {
-    match route_leg(snapshot, ends, f) {
+    match rival_leg(snapshot, ends, f) {
         None => 0,
         Some(reply) => match lead_between(leads, leg.to, reply.to) {
             0 => 0,

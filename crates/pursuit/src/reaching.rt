@@ -5,7 +5,7 @@ ghost use Rattle.search.specs.Snapshots.{legs_of};
 ghost use Rattle.pursuit.specs.Tables.{height_at, own_high, AllReached};
 
 use super::heights::height_of;
-use super::legs::route_leg;
+use super::legs::rival_leg;
 use chart::choices::Choice;
 use chart::ends::Ends;
 use chart::limits::MAX_FIXES;
@@ -42,7 +42,7 @@ fn take_leg(
     requires { AllReached (trip (legs_of snapshot.now) ends.from ends.to) (height_at heights.now) (own_high (legs_of snapshot.now) marks.now) below times.old }
     ensures { AllReached (trip (legs_of snapshot.now) ends.from ends.to) (height_at heights.now) (own_high (legs_of snapshot.now) marks.now) below times.new }
 {
-    let Some(leg) = route_leg(snapshot, ends, k) else {
+    let Some(leg) = rival_leg(snapshot, ends, k) else {
         return;
     };
     if height_of(heights, leg.from) >= below {

@@ -1,13 +1,14 @@
 use Rattle.chart.specs.Regret.{trip}
 use Rattle.search.specs.Snapshots.{legs_of}
+use Rattle.pursuit.specs.Rivals.{ServesRoute}
 use Rattle.pursuit.proofs.Reading.{no_leg_read, leg_serves, leg_not_served}
 use Rattle.pursuit.proofs.legs.route_leg.Goals as goal
 
 pub returns-in_err-leg : goal.returns-in_err-leg
-returns-in_err-leg c = rw c.from_residual.ensures (no_leg_read (trip (legs_of c.args.snapshot.now) c.args.ends.from c.args.ends.to) c.args.k c.in_err-leg.ensures)
+returns-in_err-leg c = rw c.from_residual.ensures (no_leg_read ServesRoute (trip (legs_of c.args.snapshot.now) c.args.ends.from c.args.ends.to) c.args.k c.in_err-leg.ensures)
 
-pub returns-then-serves : goal.returns-then-serves
-returns-then-serves c = leg_serves (trip (legs_of c.args.snapshot.now) c.args.ends.from c.args.ends.to) c.args.k c.in_ok-leg.leg c.in_ok-leg.ensures c.if-serves.ensures
+pub returns-then-serves_route : goal.returns-then-serves_route
+returns-then-serves_route c = leg_serves ServesRoute (trip (legs_of c.args.snapshot.now) c.args.ends.from c.args.ends.to) c.args.k c.in_ok-leg.leg c.in_ok-leg.ensures c.if-serves_route.ensures
 
-pub returns-else-serves : goal.returns-else-serves
-returns-else-serves c = leg_not_served (trip (legs_of c.args.snapshot.now) c.args.ends.from c.args.ends.to) c.args.k c.in_ok-leg.leg c.in_ok-leg.ensures c.if-serves.ensures
+pub returns-else-serves_route : goal.returns-else-serves_route
+returns-else-serves_route c = leg_not_served ServesRoute (trip (legs_of c.args.snapshot.now) c.args.ends.from c.args.ends.to) c.args.k c.in_ok-leg.leg c.in_ok-leg.ensures c.if-serves_route.ensures
