@@ -5,7 +5,7 @@ use Rattle.chart.specs.Regret.{Trip, trip, Flies, Regret, Beats, LeastRegret}
 use Rattle.chart.specs.Floors.{Begins}
 use Rattle.search.specs.Snapshots.{fixes_of, legs_of}
 use Rattle.regret.specs.Walks.{Walk}
-use Rattle.pursuit.specs.Tables.{IsPursuit}
+use Rattle.pursuit.specs.Leads.{IsPursuit}
 use Rattle.least.specs.declared.sweep.Best.{Best}
 use Rattle.least.specs.declared.sweep.Sweep.{Sweep}
 

@@ -2,7 +2,7 @@
 ghost use Rattle.std.specs.Prelude.{◌≡◌, ◌<◌, IfSome};
 ghost use Rattle.chart.specs.Regret.{trip, LeastRegretIsUnique};
 ghost use Rattle.search.specs.Snapshots.{fixes_of, legs_of};
-ghost use Rattle.pursuit.specs.Tables.{IsPursuit};
+ghost use Rattle.pursuit.specs.Leads.{IsPursuit};
 ghost use Rattle.least.specs.Sweeps.{Least};
 ghost use Rattle.least.specs.Answers.{RouteAnswer};
 

@@ -11,16 +11,16 @@ use Rattle.regret.proofs.Present.{worst_of, worst_is, regret_is_never_exceeded}
 use Rattle.regret.proofs.Losing.{time_join}
 use Rattle.floor.proofs.Parts.{in_behind, in_either}
 use Rattle.pursuit.specs.Rivals.{IsRouteLeg, IsRivalLeg, IsRival, Path}
-use Rattle.pursuit.specs.Pursuits.{PursuitBound, PursuitBoundIsBelowEveryRegret}
+use Rattle.pursuit.specs.Pursuits.{IsPursuitBound, PursuitBoundIsBelowEveryRegret}
 use Rattle.pursuit.proofs.Paths.{path_join, path_leaves, path_leaves_below, leads_path, route_legs, route_leg_is_rival_leg, path_is_rival}
-use Rattle.pursuit.proofs.Chases.{Play, kept}
+use Rattle.pursuit.proofs.KeptLeads.{Play, kept}
 
 -- the worst choice for a list is a choice of times
 worst_chosen : (legs : List Leg) (p : List ℕ) → Choice legs (worst_of legs p)
 worst_chosen legs p k lt = let w = worst_is legs p in grind (arith, w.on k, w.off k, in_or k p, (at legs k).ordered)
 
 -- a route that begins with the chain ks and goes on by `rest`
-module _ (t : Trip) (ks rest : List ℕ) (x : ℕ) (bound : PursuitBound t ks x) (flies : Flies t (ks ++ rest)) where
+module _ (t : Trip) (ks rest : List ℕ) (x : ℕ) (bound : IsPursuitBound t ks x) (flies : Flies t (ks ++ rest)) where
   abbrev w : ℕ → ℕ
   w = worst_of t.legs (ks ++ rest)
 

@@ -1,8 +1,8 @@
 pub mod Paths
-pub mod Chases
+pub mod KeptLeads
 pub mod BelowRegret
-pub mod Reading
-pub mod LegByLeg
-pub mod Supports
-pub mod Reachings
-pub mod Telling
+pub mod ReadLegs
+pub mod LegLoops
+pub mod SupportedLeads
+pub mod ReachedFixes
+pub mod ToldBounds

@@ -10,7 +10,7 @@ use Rattle.regret.proofs.Worsts.{in_entered}
 use Rattle.regret.proofs.Losing.{chain_is_route}
 use Rattle.floor.proofs.Fixes.{left_not_end}
 use Rattle.pursuit.specs.Rivals.{IsRouteLeg, IsRivalLeg, IsRival, Path}
-use Rattle.pursuit.specs.Pursuits.{Rises}
+use Rattle.pursuit.specs.Pursuits.{EveryLegRises}
 
 module _ (P : ℕ → Type 0) (legs : List Leg) where
   pub path_join : (ks ms : List ℕ) (a z b : ℕ) → Path P legs a ks z → Path P legs z ms b → Path P legs a (ks ++ ms) b
@@ -108,7 +108,7 @@ path_leads t (k ∷ ks) a z h =
     (record { there = h.0.there; stands = not_closed_open (at t.legs k).standing h.0.serves.stands; from = h.1 }, path_leads t ks (at t.legs k).to z h.2)
 
 -- a path of rivals' legs that rise, from the departure to the destination, is a rival, if there is a route
-pub path_is_rival : (t : Trip) (height : ℕ → ℕ) → Rises t height → (r : List ℕ) → Path (IsRivalLeg t) t.legs t.from r t.to → (p : List ℕ) → Flies t p → IsRival t r
+pub path_is_rival : (t : Trip) (height : ℕ → ℕ) → EveryLegRises t height → (r : List ℕ) → Path (IsRivalLeg t) t.legs t.from r t.to → (p : List ℕ) → Flies t p → IsRival t r
 path_is_rival t height rises r path p flies =
     let chain : Chain t.legs t.from r t.to = record { leads = path_leads t r t.from t.to path; once = path_once (IsRivalLeg t) t.legs height rises r t.from t.to path } in
     chain_is_route t.legs t.from t.to t.to r chain refl p flies

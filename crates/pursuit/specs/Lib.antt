@@ -1,3 +1,3 @@
 pub mod Rivals
 pub mod Pursuits
-pub mod Tables
+pub mod Leads

@@ -14,8 +14,8 @@ use Rattle.chart.specs.Floors.{Begins, highs}
 use Rattle.pursuit.specs.Rivals.{IsRouteLeg, IsRivalLeg, Path}
 
 -- how long the rival's leg f takes where route and rival leave one fix, and the route by the leg e
-abbrev pub beside : List Leg → ℕ → ℕ → ℕ
-beside legs e f = cond (f == e) (at legs f).high (at legs f).low
+abbrev pub reply_time : List Leg → ℕ → ℕ → ℕ
+reply_time legs e f = cond (f == e) (at legs f).high (at legs f).low
 
 -- Leads count from an offset, so that a number may stand for a lead below zero. A lead of 0 says nothing: from there the rival
 -- may have no way on. The route is at a, and the rival at b.
@@ -38,7 +38,7 @@ RivalMoves t lead a b x = 1 ≤ x → (f : ℕ) × ((at t.legs f).from ≡ b) ×
 
 -- where both leave one fix, it is kept where the route takes the leg e and the rival f
 abbrev pub ReplyKeeps : Trip → (ℕ → ℕ → ℕ) → ℕ → ℕ → ℕ → Type 0
-ReplyKeeps t lead e x f = 1 ≤ x → IsRivalLeg t f × (1 ≤ lead (at t.legs e).to (at t.legs f).to) × (x + beside t.legs e f ≤ lead (at t.legs e).to (at t.legs f).to + (at t.legs e).high)
+ReplyKeeps t lead e x f = 1 ≤ x → IsRivalLeg t f × (1 ≤ lead (at t.legs e).to (at t.legs f).to) × (x + reply_time t.legs e f ≤ lead (at t.legs e).to (at t.legs f).to + (at t.legs e).high)
 
 -- where both leave a, and the route takes the leg e, it is kept by some leg of the rival
 abbrev pub RepliesTo : Trip → (ℕ → ℕ → ℕ) → ℕ → ℕ → ℕ → Type 0
@@ -49,7 +49,7 @@ abbrev pub BothMove : Trip → (ℕ → ℕ → ℕ) → ℕ → ℕ → Type 0
 BothMove t lead a x = (e : ℕ) → e < length t.legs → (at t.legs e).from ≡ a → RepliesTo t lead a x e
 
 -- the next move keeps the lead x
-pub record Supported (t : Trip) (height : ℕ → ℕ) (offset : ℕ) (lead : ℕ → ℕ → ℕ) (a b x : ℕ) : Type 0 where
+pub record IsSupported (t : Trip) (height : ℕ → ℕ) (offset : ℕ) (lead : ℕ → ℕ → ℕ) (a b x : ℕ) : Type 0 where
   pub both_arrived : a ≡ t.to → b ≡ t.to → x ≤ offset
   pub rival_past : a ≡ t.to → a ≢ b → height a ≤ height b → x ≡ 0
   pub route_moves : a ≢ b → height a ≤ height b → RouteMoves t lead a b x
@@ -57,16 +57,16 @@ pub record Supported (t : Trip) (height : ℕ → ℕ) (offset : ℕ) (lead : �
   pub both_move : a ≡ b → BothMove t lead a x
 
 -- every leg leads to a higher fix, but for those that no route and no rival has
-abbrev pub Rises : Trip → (ℕ → ℕ) → Type 0
-Rises t height = (k : ℕ) → IsRivalLeg t k → height (at t.legs k).from < height (at t.legs k).to
+abbrev pub EveryLegRises : Trip → (ℕ → ℕ) → Type 0
+EveryLegRises t height = (k : ℕ) → IsRivalLeg t k → height (at t.legs k).from < height (at t.legs k).to
 
 -- a table of leads, each of which the next move keeps
-pub record Table (t : Trip) (height : ℕ → ℕ) (offset : ℕ) (lead : ℕ → ℕ → ℕ) : Type 0 where
-  pub rises : Rises t height
-  pub supported : (a b : ℕ) → Supported t height offset lead a b (lead a b)
+pub record IsLeadTable (t : Trip) (height : ℕ → ℕ) (offset : ℕ) (lead : ℕ → ℕ → ℕ) : Type 0 where
+  pub rises : EveryLegRises t height
+  pub supported : (a b : ℕ) → IsSupported t height offset lead a b (lead a b)
 
 -- a rival comes to the fix b in the time d of the choice w, by legs that leave fixes below the height h
-pub record Reaches (t : Trip) (height w : ℕ → ℕ) (h b d : ℕ) : Type 0 where
+pub record RivalReaches (t : Trip) (height w : ℕ → ℕ) (h b d : ℕ) : Type 0 where
   pub by : List ℕ
   pub path : Path (IsRivalLeg t) t.legs t.from by b
   pub below : (k : ℕ) → In k by → height (at t.legs k).from < h
@@ -74,18 +74,18 @@ pub record Reaches (t : Trip) (height w : ℕ → ℕ) (h b d : ℕ) : Type 0 wh
 
 -- x is a pursuit bound of the chain ks: the chain leads to v, and a rival has come to b, which is no lower than v, in the time
 -- d where the chain's legs take their high and all others their low time
-pub record PursuitBound (t : Trip) (ks : List ℕ) (x : ℕ) : Type 0 where
+pub record IsPursuitBound (t : Trip) (ks : List ℕ) (x : ℕ) : Type 0 where
   pub height : ℕ → ℕ
   pub offset : ℕ
   pub lead : ℕ → ℕ → ℕ
-  pub table : Table t height offset lead
+  pub table : IsLeadTable t height offset lead
   pub v : ℕ
   pub leads : Leads t.legs t.from ks v
   pub w : ℕ → ℕ
   pub worst : Worst t.legs ks w
   pub b : ℕ
   pub d : ℕ
-  pub reaches : Reaches t height w (height v) b d
+  pub reaches : RivalReaches t height w (height v) b d
   pub onward : height v ≤ height b
   pub told : 1 ≤ lead v b
   pub over : x + d + offset ≤ time (highs t.legs) ks + lead v b
@@ -96,4 +96,4 @@ IsBelowRegrets t ks x = (p : List ℕ) → Flies t p → Begins ks p → (y : �
 
 -- no route that begins with a list has a regret below a pursuit bound of the list
 abbrev pub PursuitBoundIsBelowEveryRegret : Type 0
-PursuitBoundIsBelowEveryRegret = (t : Trip) (ks : List ℕ) (x : ℕ) → PursuitBound t ks x → IsBelowRegrets t ks x
+PursuitBoundIsBelowEveryRegret = (t : Trip) (ks : List ℕ) (x : ℕ) → IsPursuitBound t ks x → IsBelowRegrets t ks x

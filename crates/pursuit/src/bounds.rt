@@ -3,7 +3,7 @@ ghost use Rattle.std.specs.Prelude.{◌≤◌};
 ghost use Rattle.chart.specs.Regret.{trip};
 ghost use Rattle.search.specs.Snapshots.{legs_of};
 ghost use Rattle.pursuit.specs.Pursuits.{IsBelowRegrets, PursuitBoundIsBelowEveryRegret};
-ghost use Rattle.pursuit.specs.Tables.{IsPursuit, Tells};
+ghost use Rattle.pursuit.specs.Leads.{IsPursuit, TellsBound};
 
 use super::heights::height_of;
 use super::leads::{OFFSET, lead_between};
@@ -17,7 +17,7 @@ use search::snapshot::Snapshot;
 
 // The bound that the rival who has reached the fix `b` tells of the chain that was walked along; 0 where it tells none.
 fn bound_at(pursuit: &Pursuit, walked: &Walked, times: &[Option<u32>], b: u16) -> u32
-    ensures { 1 ≤ result → Tells pursuit.now walked.now times.now b result }
+    ensures { 1 ≤ result → TellsBound pursuit.now walked.now times.now b result }
 {
     if height_of(&pursuit.heights, b) < height_of(&pursuit.heights, walked.end) {
         return 0;

@@ -2,8 +2,8 @@
 ghost use Rattle.std.specs.Prelude.{◌≡◌, MatchBool};
 ghost use Rattle.chart.specs.Regret.{trip};
 ghost use Rattle.search.specs.Snapshots.{legs_of};
-ghost use Rattle.pursuit.specs.Pursuits.{Rises};
-ghost use Rattle.pursuit.specs.Tables.{height_at};
+ghost use Rattle.pursuit.specs.Pursuits.{EveryLegRises};
+ghost use Rattle.pursuit.specs.Leads.{height_at};
 
 use super::legs::rival_leg;
 use arrayvec::ArrayVec;
@@ -51,8 +51,8 @@ pub(crate) fn find_heights(snapshot: &Snapshot, ends: Ends) -> [u16; MAX_FIXES] 
 }
 
 // Whether every leg leads to a higher fix.
-pub(crate) fn rises(snapshot: &Snapshot, ends: Ends, heights: &[u16]) -> bool
-    ensures { MatchBool result (Rises (trip (legs_of snapshot.now) ends.from ends.to) (height_at heights.now)) (Rises (trip (legs_of snapshot.now) ends.from ends.to) (height_at heights.now) → ⊥) }
+pub(crate) fn every_leg_rises(snapshot: &Snapshot, ends: Ends, heights: &[u16]) -> bool
+    ensures { MatchBool result (EveryLegRises (trip (legs_of snapshot.now) ends.from ends.to) (height_at heights.now)) (EveryLegRises (trip (legs_of snapshot.now) ends.from ends.to) (height_at heights.now) → ⊥) }
 {
     for k in 0..snapshot.m() {
         if let Some(leg) = rival_leg(snapshot, ends, k)

@@ -1,6 +1,6 @@
 // A table of leads: for each two places of route and rival one.
 ghost use Rattle.std.specs.Prelude.{◌≡◌};
-ghost use Rattle.pursuit.specs.Tables.{lead_at};
+ghost use Rattle.pursuit.specs.Leads.{lead_at};
 
 use chart::limits::MAX_FIXES;
 
@@ -14,7 +14,7 @@ pub(crate) const OFFSET: u32 = 1 << 25;
 pub(crate) const ENDLESS: u32 = 1 << 28;
 
 // The lead of the route at `a` and the rival at `b`.
-#[tactic(auto, using(crate::proofs::Reading::lead_there, crate::proofs::Reading::lead_past_route, crate::proofs::Reading::lead_past_rival))]
+#[tactic(auto, using(crate::proofs::ReadLegs::lead_there, crate::proofs::ReadLegs::lead_past_route, crate::proofs::ReadLegs::lead_past_rival))]
 pub(crate) fn lead_between(leads: &[u32], a: u16, b: u16) -> u32
     ensures { result ≡ lead_at leads.now a b }
 {

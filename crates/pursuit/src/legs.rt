@@ -3,7 +3,7 @@ ghost use Rattle.std.specs.Prelude.{MatchBool};
 ghost use Rattle.chart.specs.Regret.{trip};
 ghost use Rattle.search.specs.Snapshots.{legs_of};
 ghost use Rattle.pursuit.specs.Rivals.{ServesRoute, ServesRival};
-ghost use Rattle.pursuit.specs.Tables.{LegRead};
+ghost use Rattle.pursuit.specs.Leads.{LegRead};
 
 use chart::charts::Chart;
 use chart::ends::Ends;

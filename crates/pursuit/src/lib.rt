@@ -9,4 +9,4 @@ mod legs;
 mod moves;
 pub mod pursuits;
 mod reaching;
-mod tables;
+mod lead_tables;

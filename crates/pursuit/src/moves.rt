@@ -4,7 +4,7 @@ ghost use Rattle.chart.specs.Legs.{at};
 ghost use Rattle.chart.specs.Regret.{trip};
 ghost use Rattle.search.specs.Snapshots.{legs_of};
 ghost use Rattle.pursuit.specs.Pursuits.{RouteKeeps, RouteMoves, RivalKeeps, RivalMoves, ReplyKeeps, RepliesTo, BothMove};
-ghost use Rattle.pursuit.specs.Tables.{lead_at};
+ghost use Rattle.pursuit.specs.Leads.{lead_at};
 
 use super::leads::{ENDLESS, lead_between};
 use super::legs::{rival_leg, route_leg};

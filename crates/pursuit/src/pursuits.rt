@@ -2,11 +2,11 @@
 ghost use Rattle.std.specs.Prelude.{IfSome};
 ghost use Rattle.chart.specs.Regret.{trip};
 ghost use Rattle.search.specs.Snapshots.{legs_of};
-ghost use Rattle.pursuit.specs.Tables.{IsPursuit};
+ghost use Rattle.pursuit.specs.Leads.{IsPursuit};
 
 use super::heights::{falling_order, find_heights};
 use super::leads::MAX_LEADS;
-use super::tables::{fill, is_table};
+use super::lead_tables::{fill, is_lead_table};
 use arrayvec::ArrayVec;
 use chart::ends::Ends;
 use chart::limits::MAX_FIXES;
@@ -28,7 +28,7 @@ pub fn pursue(snapshot: &Snapshot, ends: Ends) -> Option<Pursuit>
     let order = falling_order(snapshot, &heights);
     let mut leads = [0; MAX_LEADS];
     fill(snapshot, ends, &heights, order.as_slice(), &mut leads);
-    if !is_table(snapshot, ends, &heights, &leads) {
+    if !is_lead_table(snapshot, ends, &heights, &leads) {
         return None;
     }
     Some(Pursuit {

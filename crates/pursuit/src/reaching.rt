@@ -2,7 +2,7 @@
 ghost use Rattle.std.specs.Prelude.{◌≡◌, None, Some, slice_index_or, slice_set};
 ghost use Rattle.chart.specs.Regret.{trip};
 ghost use Rattle.search.specs.Snapshots.{legs_of};
-ghost use Rattle.pursuit.specs.Tables.{height_at, own_high, AllReached};
+ghost use Rattle.pursuit.specs.Leads.{height_at, own_high, AreReached};
 
 use super::heights::height_of;
 use super::legs::rival_leg;
@@ -39,8 +39,8 @@ fn take_leg(
     times: &mut [Option<u32>],
     k: u16,
 )
-    requires { AllReached (trip (legs_of snapshot.now) ends.from ends.to) (height_at heights.now) (own_high (legs_of snapshot.now) marks.now) below times.old }
-    ensures { AllReached (trip (legs_of snapshot.now) ends.from ends.to) (height_at heights.now) (own_high (legs_of snapshot.now) marks.now) below times.new }
+    requires { AreReached (trip (legs_of snapshot.now) ends.from ends.to) (height_at heights.now) (own_high (legs_of snapshot.now) marks.now) below times.old }
+    ensures { AreReached (trip (legs_of snapshot.now) ends.from ends.to) (height_at heights.now) (own_high (legs_of snapshot.now) marks.now) below times.new }
 {
     let Some(leg) = rival_leg(snapshot, ends, k) else {
         return;
@@ -69,8 +69,8 @@ fn take_legs(
     times: &mut [Option<u32>],
     u: u16,
 )
-    requires { AllReached (trip (legs_of snapshot.now) ends.from ends.to) (height_at heights.now) (own_high (legs_of snapshot.now) marks.now) below times.old }
-    ensures { AllReached (trip (legs_of snapshot.now) ends.from ends.to) (height_at heights.now) (own_high (legs_of snapshot.now) marks.now) below times.new }
+    requires { AreReached (trip (legs_of snapshot.now) ends.from ends.to) (height_at heights.now) (own_high (legs_of snapshot.now) marks.now) below times.old }
+    ensures { AreReached (trip (legs_of snapshot.now) ends.from ends.to) (height_at heights.now) (own_high (legs_of snapshot.now) marks.now) below times.new }
 {
     for k in snapshot.legs_from(u) {
         take_leg(snapshot, ends, heights, marks, below, times, k);
@@ -87,7 +87,7 @@ pub(crate) fn reach(
     marks: &[bool],
     below: u16,
 ) -> [Option<u32>; MAX_FIXES]
-    ensures { AllReached (trip (legs_of snapshot.now) ends.from ends.to) (height_at heights.now) (own_high (legs_of snapshot.now) marks.now) below result }
+    ensures { AreReached (trip (legs_of snapshot.now) ends.from ends.to) (height_at heights.now) (own_high (legs_of snapshot.now) marks.now) below result }
 {
     let mut times = [None; MAX_FIXES];
     set_time(&mut times, ends.from, 0);

@@ -1,10 +1,10 @@
 use Rattle.std.proofs.Common.{subst}
 use Rattle.chart.specs.Regret.{trip}
 use Rattle.search.specs.Snapshots.{legs_of}
-use Rattle.pursuit.specs.Tables.{height_at, own_high, AllReached}
+use Rattle.pursuit.specs.Leads.{height_at, own_high, AreReached}
 use Rattle.pursuit.proofs.BelowRegret.{pursuit_bound_is_below_every_regret}
-use Rattle.pursuit.proofs.Reading.{larger_is}
-use Rattle.pursuit.proofs.Telling.{none_below, told_below, larger_below}
+use Rattle.pursuit.proofs.LegLoops.{larger_is}
+use Rattle.pursuit.proofs.ToldBounds.{none_below, told_below, larger_below}
 use Rattle.pursuit.proofs.bounds.bound.Goals as goal
 
 pub returns-in_default-clause-below_every_regret : goal.returns-in_default-clause-below_every_regret
@@ -21,6 +21,6 @@ loop-b-preserved c =
     let t = trip (legs_of c.args.snapshot.now) c.args.ends.from c.args.ends.to in
     let p = c.args.pursuit.now in
     let walked = c.in-Some.walked in
-    let reached = subst (λ h. AllReached t (height_at p.heights) (own_high (legs_of c.args.snapshot.now) walked.marks) h c.reach-times.result) c.height_of-below.ensures c.reach-times.ensures in
+    let reached = subst (λ h. AreReached t (height_at p.heights) (own_high (legs_of c.args.snapshot.now) walked.marks) h c.reach-times.result) c.height_of-below.ensures c.reach-times.ensures in
     larger_below t c.args.chain.now c.loop-b.most c.bound_at.result c.max-most.result (larger_is _ _ _ c.max-most.ensures) c.loop-b.invariant
     (told_below t c.args.chain.now p c.requires walked c.in-Some.ensures.1 c.reach-times.result reached c.loop-b.b c.bound_at.result c.bound_at.ensures)

@@ -1,7 +1,7 @@
 use Rattle.chart.specs.Regret.{trip}
 use Rattle.search.specs.Snapshots.{legs_of}
 use Rattle.pursuit.specs.Rivals.{ServesRoute}
-use Rattle.pursuit.proofs.Reading.{no_leg_read, leg_serves, leg_not_served}
+use Rattle.pursuit.proofs.ReadLegs.{no_leg_read, leg_serves, leg_not_served}
 use Rattle.pursuit.proofs.legs.route_leg.Goals as goal
 
 pub returns-in_err-leg : goal.returns-in_err-leg

@@ -2,8 +2,8 @@ use Rattle.std.proofs.Common.{arith, rules}
 use Rattle.chart.specs.Regret.{trip}
 use Rattle.search.specs.Snapshots.{legs_of}
 use Rattle.pursuit.specs.Pursuits.{ReplyKeeps}
-use Rattle.pursuit.specs.Tables.{lead_at}
-use Rattle.pursuit.proofs.Reading.{found_start, found_on, larger_is}
+use Rattle.pursuit.specs.Leads.{lead_at}
+use Rattle.pursuit.proofs.LegLoops.{found_start, found_on, larger_is}
 use Rattle.pursuit.proofs.moves.best_reply.Goals as goal
 
 pub loop-f-init : goal.loop-f-init

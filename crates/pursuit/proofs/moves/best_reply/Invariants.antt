@@ -1,8 +1,8 @@
 use Rattle.chart.specs.Regret.{trip}
 use Rattle.search.specs.Snapshots.{legs_of}
 use Rattle.pursuit.specs.Pursuits.{ReplyKeeps}
-use Rattle.pursuit.specs.Tables.{lead_at}
-use Rattle.pursuit.proofs.Reading.{Found}
+use Rattle.pursuit.specs.Leads.{lead_at}
+use Rattle.pursuit.proofs.LegLoops.{Found}
 use Rattle.pursuit.proofs.moves.best_reply.Given as goal
 
 abbrev pub invariant-loop-f : goal.invariant-loop-f

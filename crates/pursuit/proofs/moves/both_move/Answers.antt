@@ -2,9 +2,9 @@ use Rattle.std.proofs.Common.{arith, rules}
 use Rattle.chart.specs.Regret.{trip}
 use Rattle.search.specs.Snapshots.{legs_of}
 use Rattle.pursuit.specs.Pursuits.{RepliesTo}
-use Rattle.pursuit.specs.Tables.{lead_at}
-use Rattle.pursuit.proofs.Reading.{passed_end}
-use Rattle.pursuit.proofs.LegByLeg.{replies_on}
+use Rattle.pursuit.specs.Leads.{lead_at}
+use Rattle.pursuit.proofs.LegLoops.{passed_end}
+use Rattle.pursuit.proofs.LegLoops.{replies_on}
 use Rattle.pursuit.proofs.moves.both_move.Goals as goal
 
 pub loop-e-preserved : goal.loop-e-preserved

@@ -2,9 +2,9 @@ use Rattle.std.proofs.Common.{arith, rules}
 use Rattle.chart.specs.Regret.{trip}
 use Rattle.search.specs.Snapshots.{legs_of}
 use Rattle.pursuit.specs.Pursuits.{RouteKeeps}
-use Rattle.pursuit.specs.Tables.{lead_at}
-use Rattle.pursuit.proofs.Reading.{passed_end}
-use Rattle.pursuit.proofs.LegByLeg.{route_on}
+use Rattle.pursuit.specs.Leads.{lead_at}
+use Rattle.pursuit.proofs.LegLoops.{passed_end}
+use Rattle.pursuit.proofs.LegLoops.{route_on}
 use Rattle.pursuit.proofs.moves.route_moves.Goals as goal
 
 pub loop-e-preserved : goal.loop-e-preserved

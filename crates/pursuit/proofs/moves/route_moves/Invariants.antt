@@ -1,8 +1,8 @@
 use Rattle.chart.specs.Regret.{trip}
 use Rattle.search.specs.Snapshots.{legs_of}
 use Rattle.pursuit.specs.Pursuits.{RouteKeeps}
-use Rattle.pursuit.specs.Tables.{lead_at}
-use Rattle.pursuit.proofs.Reading.{Passed}
+use Rattle.pursuit.specs.Leads.{lead_at}
+use Rattle.pursuit.proofs.LegLoops.{Passed}
 use Rattle.pursuit.proofs.moves.route_moves.Given as goal
 
 abbrev pub invariant-loop-e : goal.invariant-loop-e

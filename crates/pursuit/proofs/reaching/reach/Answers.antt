@@ -1,8 +1,8 @@
 use Rattle.chart.specs.Limits.{max_fixes}
 use Rattle.chart.specs.Regret.{trip}
 use Rattle.search.specs.Snapshots.{legs_of}
-use Rattle.pursuit.specs.Tables.{height_at, own_high}
-use Rattle.pursuit.proofs.Reachings.{all_start}
+use Rattle.pursuit.specs.Leads.{height_at, own_high}
+use Rattle.pursuit.proofs.ReachedFixes.{all_start}
 use Rattle.pursuit.proofs.reaching.reach.Goals as goal
 
 pub loop-u-init : goal.loop-u-init

@@ -3,8 +3,8 @@ use Rattle.chart.specs.declared.leg.Leg.{Leg}
 use Rattle.chart.specs.Regret.{trip}
 use Rattle.search.specs.Snapshots.{legs_of}
 use Rattle.regret.specs.Marked.{marked_times}
-use Rattle.pursuit.specs.Tables.{height_at, own_high}
-use Rattle.pursuit.proofs.Reachings.{all_taken}
+use Rattle.pursuit.specs.Leads.{height_at, own_high}
+use Rattle.pursuit.proofs.ReachedFixes.{all_taken}
 use Rattle.pursuit.proofs.reaching.take_leg.Goals as goal
 
 pub returns-then-is_none_or : goal.returns-then-is_none_or

@@ -7,16 +7,16 @@ use Rattle.regret.specs.declared.walked.Walked.{Walked}
 use Rattle.regret.specs.Walks.{Along}
 use Rattle.regret.proofs.Losing.{marks_worst}
 use Rattle.pursuit.specs.declared.pursuits.Pursuit.{Pursuit}
-use Rattle.pursuit.specs.Pursuits.{PursuitBound, IsBelowRegrets}
-use Rattle.pursuit.specs.Tables.{height_at, own_high, AllReached, IsPursuit, Tells}
+use Rattle.pursuit.specs.Pursuits.{IsPursuitBound, IsBelowRegrets}
+use Rattle.pursuit.specs.Leads.{height_at, own_high, AreReached, IsPursuit, TellsBound}
 use Rattle.pursuit.proofs.BelowRegret.{pursuit_bound_is_below_every_regret}
 
 -- 0 is below every regret
 pub none_below : (t : Trip) (ks : List ℕ) → IsBelowRegrets t ks 0
 none_below t ks p flies begins y regret = omega arith
 
-module _ (t : Trip) (ks : List ℕ) (p : Pursuit) (is : IsPursuit t p) (walked : Walked) (along : Along t.legs t.from ks walked) (times : List (Option ℕ)) (reached : AllReached t (height_at p.heights) (own_high t.legs walked.marks) (height_at p.heights walked.end) times) where
-  told_bound : (b x : ℕ) → Tells p walked times b x → PursuitBound t ks x
+module _ (t : Trip) (ks : List ℕ) (p : Pursuit) (is : IsPursuit t p) (walked : Walked) (along : Along t.legs t.from ks walked) (times : List (Option ℕ)) (reached : AreReached t (height_at p.heights) (own_high t.legs walked.marks) (height_at p.heights walked.end) times) where
+  told_bound : (b x : ℕ) → TellsBound p walked times b x → IsPursuitBound t ks x
   told_bound b x tells = record {
     height = height_at p.heights;
     offset = _;
@@ -34,7 +34,7 @@ module _ (t : Trip) (ks : List ℕ) (p : Pursuit) (is : IsPursuit t p) (walked :
     over = let o = tells.over in let s = along.sums in omega arith;
   }
 
-  pub told_below : (b x : ℕ) → (1 ≤ x → Tells p walked times b x) → IsBelowRegrets t ks x
+  pub told_below : (b x : ℕ) → (1 ≤ x → TellsBound p walked times b x) → IsBelowRegrets t ks x
   told_below b x tells q flies begins y regret =
       ⊎_elim
       (λ (one : 0 < x). pursuit_bound_is_below_every_regret t ks x (told_bound b x (tells (omega arith))) q flies begins y regret)

@@ -6,10 +6,10 @@ use Rattle.chart.specs.Legs.{at}
 use Rattle.chart.specs.Routes.{In}
 use Rattle.chart.specs.Regret.{Trip, time}
 use Rattle.pursuit.specs.Rivals.{IsRouteLeg, IsRivalLeg, Path}
-use Rattle.pursuit.specs.Pursuits.{Table, beside}
+use Rattle.pursuit.specs.Pursuits.{IsLeadTable, reply_time}
 use Rattle.pursuit.proofs.Paths.{path_rises, path_leaves, route_leg_is_rival_leg}
 
-module _ {t : Trip} {height : ℕ → ℕ} {offset : ℕ} {lead : ℕ → ℕ → ℕ} (table : Table t height offset lead) (w : ℕ → ℕ) where
+module _ {t : Trip} {height : ℕ → ℕ} {offset : ℕ} {lead : ℕ → ℕ → ℕ} (table : IsLeadTable t height offset lead) (w : ℕ → ℕ) where
   -- the rival, which is at b, may come to leave the fix v
   abbrev pub StillTo : ℕ → ℕ → Type 0
   StillTo b v = (v ≡ b) ⊎ (height b < height v)
@@ -44,8 +44,8 @@ module _ {t : Trip} {height : ℕ → ℕ} {offset : ℕ} {lead : ℕ → ℕ �
   still_higher b c v up s = ⊎_elim (λ e. subst (λ y. height b < height y) (sym e) up) (λ h. omega arith) s
 
   -- where both leave one fix, how long the rival's leg takes
-  beside_taken : (e f : ℕ) → (f ≡ e → w f ≡ (at t.legs f).high) → ((f ≡ e → ⊥) → w f ≡ (at t.legs f).low) → w f ≡ beside t.legs e f
-  beside_taken e f same other =
+  reply_taken : (e f : ℕ) → (f ≡ e → w f ≡ (at t.legs f).high) → ((f ≡ e → ⊥) → w f ≡ (at t.legs f).low) → w f ≡ reply_time t.legs e f
+  reply_taken e f same other =
       ⊎_elim
       (λ s. same s ∙ sym (ap (λ b. cond b (at t.legs f).high (at t.legs f).low) (eq-eqb f e s)))
       (λ n. other n ∙ sym (ap (λ b. cond b (at t.legs f).high (at t.legs f).low) (ne_eqb f e n)))
@@ -113,7 +113,7 @@ module _ {t : Trip} {height : ℕ → ℕ} {offset : ℕ} {lead : ℕ → ℕ �
         let up' = route_rises e leg in
         let high = play.on e (inl refl) in
         let ahead : In f ks → ⊥ = λ i. let l = path_leaves (IsRouteLeg t) t.legs height route_rises ks (at t.legs e).to t.to play.path.2 f i in omega arith in
-        let takes : w f ≡ beside t.legs e f = beside_taken e f (λ s. play.on f (inl s)) (λ s. play.off f (⊎_elim s ahead) (inl some.1)) in
+        let takes : w f ≡ reply_time t.legs e f = reply_taken e f (λ s. play.on f (inl s)) (λ s. play.off f (⊎_elim s ahead) (inl some.1)) in
         let rest = deeper ks (at t.legs e).to (at t.legs f).to (omega arith) (record {
           path = play.path.2;
           on = λ k i. play.on k (inr i);

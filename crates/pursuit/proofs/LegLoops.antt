@@ -1,46 +1,18 @@
--- What a read of one leg, one height or one lead says.
-use Rattle.std.proofs.Common.{◌≡◌, ℕ, ◌+◌, ◌*◌, ◌<◌, ◌≤◌, cond, max, List, [], ◌∷◌, length, get_or, Some, None, Option, sym, ap, ◌∙◌, subst, ⊎_elim, arith}
-use Rattle.std.proofs.lemmas.Bool.{cases_eq, cases_lt, lt-ltb, le-ltb}
-use Rattle.std.proofs.Math.Dec.{ltb}
+-- Loops over the legs that leave a fix: what holds of each leg that has passed, and what holds of the best of them.
+use Rattle.std.proofs.Common.{◌≡◌, ℕ, ◌+◌, ◌<◌, ◌≤◌, max, List, [], ◌∷◌, length, sym, ◌∙◌, subst, ⊎_elim, arith}
 use Rattle.std.specs.Ordering.{ord_max, nat_cmp}
+use Rattle.std.proofs.lemmas.Bool.{cases_eq, cases_lt}
 use Rattle.std.proofs.lemmas.Bool.Decides.{nat_tests}
 use Rattle.chart.specs.declared.leg.Leg.{Leg}
-use Rattle.chart.specs.Legs.{at, numbered}
-use Rattle.chart.specs.Limits.{max_fixes}
+use Rattle.chart.specs.Legs.{at}
 use Rattle.chart.specs.Regret.{Trip}
-use Rattle.chart.proofs.Numbers.{numbered_some, numbered_not}
 use Rattle.search.specs.Index.{leaving}
 use Rattle.search.proofs.Leaving.{leaving_goes_on, leaving_ends}
-use Rattle.pursuit.specs.Tables.{lead_at, LegRead}
+use Rattle.pursuit.specs.Pursuits.{RouteKeeps, RepliesTo}
 
-module _ (leads : List ℕ) (a b : ℕ) where
-  pub lead_there : a < max_fixes → b < max_fixes → get_or leads (max_fixes * a + b) 0 ≡ lead_at leads a b
-  unfolding lead_at
-  lead_there p q =
-      let x : lead_at leads a b ≡ cond (ltb b max_fixes) (get_or leads (max_fixes * a + b) 0) 0 = ap (λ r. cond r (cond (ltb b max_fixes) (get_or leads (max_fixes * a + b) 0) 0) 0) (lt-ltb a max_fixes p) in
-      sym (x ∙ ap (λ r. cond r (get_or leads (max_fixes * a + b) 0) 0) (lt-ltb b max_fixes q))
-
-  pub lead_past_route : max_fixes ≤ a → 0 ≡ lead_at leads a b
-  unfolding lead_at
-  lead_past_route p = sym (ap (λ r. cond r (cond (ltb b max_fixes) (get_or leads (max_fixes * a + b) 0) 0) 0) (le-ltb a max_fixes p))
-
-  pub lead_past_rival : a < max_fixes → max_fixes ≤ b → 0 ≡ lead_at leads a b
-  unfolding lead_at
-  lead_past_rival p q =
-      let x : lead_at leads a b ≡ cond (ltb b max_fixes) (get_or leads (max_fixes * a + b) 0) 0 = ap (λ r. cond r (cond (ltb b max_fixes) (get_or leads (max_fixes * a + b) 0) 0) 0) (lt-ltb a max_fixes p) in
-      sym (x ∙ ap (λ r. cond r (get_or leads (max_fixes * a + b) 0) 0) (le-ltb b max_fixes q))
-
--- a leg that was read, and tested for whether it serves
-module _ (S : ℕ → ℕ → Leg → Type 0) (t : Trip) (k : ℕ) where
-  pub no_leg_read : None ≡ numbered t.legs k → LegRead S t k None
-  no_leg_read e l = numbered_not t.legs k l.there (sym e)
-
-  module _ (leg : Leg) (is : Some leg ≡ numbered t.legs k) where
-    pub leg_serves : S t.from t.to leg → LegRead S t k (Some leg)
-    leg_serves s = let r = numbered_some t.legs k leg is in (r.1, record { there = r.0; serves = subst (λ l. S t.from t.to l) r.1 s })
-
-    pub leg_not_served : (S t.from t.to leg → ⊥) → LegRead S t k None
-    leg_not_served n l = let r = numbered_some t.legs k leg is in n (subst (λ l. S t.from t.to l) (sym r.1) l.serves)
+-- the larger number, as std finds it, is one of the two
+pub larger_is : (x y z : ℕ) → z ≡ ord_max nat_cmp x y → z ≡ max x y
+larger_is x y z e = grind (arith, nat_tests)
 
 -- In a loop over the legs that leave the fix v, where `left` are still to come, P holds of those that have passed.
 pub record Passed (legs : List Leg) (v : ℕ) (P : ℕ → Type 0) (left : List ℕ) : Type 0 where
@@ -80,10 +52,6 @@ module _ {legs : List Leg} {v : ℕ} (P : ℕ → Type 0) {left : List ℕ} wher
         (λ (ge : so_far.low ≤ k). absurd (none k ge there from))
         (cases_lt k so_far.low)
 
--- the larger number, as std finds it, is one of the two
-pub larger_is : (x y z : ℕ) → z ≡ ord_max nat_cmp x y → z ≡ max x y
-larger_is x y z e = grind (arith, nat_tests)
-
 -- In a loop over the legs that leave the fix v, some leg has P for the largest number x so far, unless that is 0.
 pub record Found (legs : List Leg) (v : ℕ) (P : ℕ → ℕ → Type 0) (x : ℕ) (left : List ℕ) : Type 0 where
   pub passed : Passed legs v (λ k. Unit {0}) left
@@ -103,3 +71,22 @@ module _ {legs : List Leg} {v : ℕ} (P : ℕ → ℕ → Type 0) {left : List �
             (λ (ge : y ≤ x). let s : x ≡ z = omega arith in let old = so_far.found (omega arith) in (old.0, old.1, subst (λ n. P n old.0) s old.2))
             (cases_lt x y);
       }
+
+-- The least lead that each leg of the route keeps, of those that have passed.
+module _ (t : Trip) (lead : ℕ → ℕ → ℕ) where
+  pub route_less : (b x y e : ℕ) → y ≤ x → RouteKeeps t lead b x e → RouteKeeps t lead b y e
+  route_less b x y e le k one leg = let h = k (omega arith) leg in (h.0, omega (arith, h.1))
+
+  pub replies_less : (a x y e : ℕ) → y ≤ x → RepliesTo t lead a x e → RepliesTo t lead a y e
+  replies_less a x y e le k one leg =
+      let h = k (omega arith) leg in
+      (h.0, h.1, λ o. let r = h.2 (omega arith) in (r.0, r.1, omega (arith, r.2)))
+
+  module _ {a : ℕ} {left : List ℕ} where
+    pub route_on : (b x y z : ℕ) → z ≤ x → z ≤ y → Passed t.legs a (RouteKeeps t lead b x) left → (k : ℕ) (rest : List ℕ) → left ≡ k ∷ rest → RouteKeeps t lead b y k → Passed t.legs a (RouteKeeps t lead b z) rest
+    route_on b x y z p q so_far k rest e new =
+        passed_on (RouteKeeps t lead b x) so_far (RouteKeeps t lead b z) k rest e (λ j h. route_less b x z j p h) (route_less b y z k q new)
+
+    pub replies_on : (x y z : ℕ) → z ≤ x → z ≤ y → Passed t.legs a (RepliesTo t lead a x) left → (k : ℕ) (rest : List ℕ) → left ≡ k ∷ rest → RepliesTo t lead a y k → Passed t.legs a (RepliesTo t lead a z) rest
+    replies_on x y z p q so_far k rest e new =
+        passed_on (RepliesTo t lead a x) so_far (RepliesTo t lead a z) k rest e (λ j h. replies_less a x z j p h) (replies_less a y z k q new)

@@ -8,7 +8,7 @@ use Rattle.chart.specs.Regret.{Trip}
 use Rattle.regret.specs.declared.walked.Walked.{Walked}
 use Rattle.regret.specs.Marked.{marked_times}
 use Rattle.pursuit.specs.Rivals.{IsLegFor}
-use Rattle.pursuit.specs.Pursuits.{Supported, Table, Reaches}
+use Rattle.pursuit.specs.Pursuits.{IsSupported, IsLeadTable, RivalReaches}
 use Rattle.pursuit.specs.declared.pursuits.Pursuit.{Pursuit}
 use Rattle.pursuit.specs.declared.leads.TheConstants.{OFFSET}
 
@@ -26,12 +26,12 @@ LegRead S t k None = IsLegFor S t k → ⊥
 LegRead S t k (Some leg) = (leg ≡ at t.legs k) × IsLegFor S t k
 
 -- each lead of the route at a is kept by the next move
-abbrev pub RowSupported : Trip → (ℕ → ℕ) → ℕ → (ℕ → ℕ → ℕ) → ℕ → Type 0
-RowSupported t height offset lead a = (b : ℕ) → b < max_fixes → Supported t height offset lead a b (lead a b)
+abbrev pub IsRowSupported : Trip → (ℕ → ℕ) → ℕ → (ℕ → ℕ → ℕ) → ℕ → Type 0
+IsRowSupported t height offset lead a = (b : ℕ) → b < max_fixes → IsSupported t height offset lead a b (lead a b)
 
 -- and so is each lead
-abbrev pub EachSupported : Trip → (ℕ → ℕ) → ℕ → (ℕ → ℕ → ℕ) → Type 0
-EachSupported t height offset lead = (a : ℕ) → a < max_fixes → RowSupported t height offset lead a
+abbrev pub IsEachSupported : Trip → (ℕ → ℕ) → ℕ → (ℕ → ℕ → ℕ) → Type 0
+IsEachSupported t height offset lead = (a : ℕ) → a < max_fixes → IsRowSupported t height offset lead a
 
 -- the time of each leg where the marked legs take their high time and all others their low
 abbrev pub own_high : List Leg → List Bool → ℕ → ℕ
@@ -39,15 +39,15 @@ own_high legs marks k = marked_times marks k (at legs k)
 
 -- the times by which a rival reaches fixes, in the choice w and by legs that leave fixes below the height h, where such a time
 -- is known
-abbrev pub AllReached : Trip → (ℕ → ℕ) → (ℕ → ℕ) → ℕ → List (Option ℕ) → Type 0
-AllReached t height w h times = (b d : ℕ) → slice_index_or times b None ≡ Some d → Reaches t height w h b d
+abbrev pub AreReached : Trip → (ℕ → ℕ) → (ℕ → ℕ) → ℕ → List (Option ℕ) → Type 0
+AreReached t height w h times = (b d : ℕ) → slice_index_or times b None ≡ Some d → RivalReaches t height w h b d
 
 -- heights and leads of the pursuit are a table of the trip
 abbrev pub IsPursuit : Trip → Pursuit → Type 0
-IsPursuit t p = Table t (height_at p.heights) OFFSET (lead_at p.leads)
+IsPursuit t p = IsLeadTable t (height_at p.heights) OFFSET (lead_at p.leads)
 
 -- a bound of x at the fix b, above 0, is told by the time of a rival who has reached b and by the lead from there
-pub record Tells (p : Pursuit) (walked : Walked) (times : List (Option ℕ)) (b x : ℕ) : Type 0 where
+pub record TellsBound (p : Pursuit) (walked : Walked) (times : List (Option ℕ)) (b x : ℕ) : Type 0 where
   pub time : ℕ
   pub reached : slice_index_or times b None ≡ Some time
   pub onward : height_at p.heights walked.end ≤ height_at p.heights b

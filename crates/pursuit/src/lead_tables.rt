@@ -2,10 +2,10 @@
 ghost use Rattle.std.specs.Prelude.{MatchBool};
 ghost use Rattle.chart.specs.Regret.{trip};
 ghost use Rattle.search.specs.Snapshots.{legs_of};
-ghost use Rattle.pursuit.specs.Pursuits.{Supported, Table};
-ghost use Rattle.pursuit.specs.Tables.{height_at, lead_at, RowSupported, EachSupported};
+ghost use Rattle.pursuit.specs.Pursuits.{IsSupported, IsLeadTable};
+ghost use Rattle.pursuit.specs.Leads.{height_at, lead_at, IsRowSupported, IsEachSupported};
 
-use super::heights::{height_of, rises};
+use super::heights::{every_leg_rises, height_of};
 use super::leads::{OFFSET, lead_between, set_lead};
 use super::moves::{both_move, rival_moves, route_moves};
 use chart::ends::Ends;
@@ -14,7 +14,7 @@ use search::snapshot::Snapshot;
 
 // The lead that the next move keeps, the route being at `a` and the rival at `b`.
 fn lead_of(snapshot: &Snapshot, ends: Ends, heights: &[u16], leads: &[u32], a: u16, b: u16) -> u32
-    ensures { Supported (trip (legs_of snapshot.now) ends.from ends.to) (height_at heights.now) OFFSET (lead_at leads.now) a b result }
+    ensures { IsSupported (trip (legs_of snapshot.now) ends.from ends.to) (height_at heights.now) OFFSET (lead_at leads.now) a b result }
 {
     if a == b {
         if a == ends.to {
@@ -43,7 +43,7 @@ pub(crate) fn fill(snapshot: &Snapshot, ends: Ends, heights: &[u16], order: &[u1
 
 // Whether the next move keeps the lead of `a` and `b`.
 fn is_supported(snapshot: &Snapshot, ends: Ends, heights: &[u16], leads: &[u32], a: u16, b: u16) -> bool
-    ensures { MatchBool result (Supported (trip (legs_of snapshot.now) ends.from ends.to) (height_at heights.now) OFFSET (lead_at leads.now) a b (lead_at leads.now a b)) (Unit {0}) }
+    ensures { MatchBool result (IsSupported (trip (legs_of snapshot.now) ends.from ends.to) (height_at heights.now) OFFSET (lead_at leads.now) a b (lead_at leads.now a b)) (Unit {0}) }
 {
     let lead = lead_between(leads, a, b);
     lead == 0 || lead <= lead_of(snapshot, ends, heights, leads, a, b)
@@ -51,7 +51,7 @@ fn is_supported(snapshot: &Snapshot, ends: Ends, heights: &[u16], leads: &[u32],
 
 // Whether it keeps each lead of `a`.
 fn is_row_supported(snapshot: &Snapshot, ends: Ends, heights: &[u16], leads: &[u32], a: u16) -> bool
-    ensures { MatchBool result (RowSupported (trip (legs_of snapshot.now) ends.from ends.to) (height_at heights.now) OFFSET (lead_at leads.now) a) (Unit {0}) }
+    ensures { MatchBool result (IsRowSupported (trip (legs_of snapshot.now) ends.from ends.to) (height_at heights.now) OFFSET (lead_at leads.now) a) (Unit {0}) }
 {
     for b in 0..MAX_FIXES as u16 {
         if !is_supported(snapshot, ends, heights, leads, a, b) {
@@ -63,7 +63,7 @@ fn is_row_supported(snapshot: &Snapshot, ends: Ends, heights: &[u16], leads: &[u
 
 // Whether it keeps each lead.
 fn is_each_supported(snapshot: &Snapshot, ends: Ends, heights: &[u16], leads: &[u32]) -> bool
-    ensures { MatchBool result (EachSupported (trip (legs_of snapshot.now) ends.from ends.to) (height_at heights.now) OFFSET (lead_at leads.now)) (Unit {0}) }
+    ensures { MatchBool result (IsEachSupported (trip (legs_of snapshot.now) ends.from ends.to) (height_at heights.now) OFFSET (lead_at leads.now)) (Unit {0}) }
 {
     for a in 0..MAX_FIXES as u16 {
         if !is_row_supported(snapshot, ends, heights, leads, a) {
@@ -74,9 +74,9 @@ fn is_each_supported(snapshot: &Snapshot, ends: Ends, heights: &[u16], leads: &[
 }
 
 // Whether heights and leads are what a pursuit needs: every leg leads to a higher fix, and the next move keeps each lead.
-#[tactic(auto, using(crate::proofs::Supports::table_told))]
-pub(crate) fn is_table(snapshot: &Snapshot, ends: Ends, heights: &[u16], leads: &[u32]) -> bool
-    ensures { MatchBool result (Table (trip (legs_of snapshot.now) ends.from ends.to) (height_at heights.now) OFFSET (lead_at leads.now)) (Unit {0}) }
+#[tactic(auto, using(crate::proofs::SupportedLeads::lead_table_told))]
+pub(crate) fn is_lead_table(snapshot: &Snapshot, ends: Ends, heights: &[u16], leads: &[u32]) -> bool
+    ensures { MatchBool result (IsLeadTable (trip (legs_of snapshot.now) ends.from ends.to) (height_at heights.now) OFFSET (lead_at leads.now)) (Unit {0}) }
 {
-    rises(snapshot, ends, heights) && is_each_supported(snapshot, ends, heights, leads)
+    every_leg_rises(snapshot, ends, heights) && is_each_supported(snapshot, ends, heights, leads)
 }

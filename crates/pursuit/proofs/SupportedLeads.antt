@@ -4,14 +4,14 @@ use Rattle.std.proofs.Math.Dec.{leb}
 use Rattle.std.proofs.lemmas.Bool.{cases_lt, leb-true}
 use Rattle.chart.specs.Limits.{max_fixes}
 use Rattle.chart.specs.Regret.{Trip}
-use Rattle.pursuit.specs.Pursuits.{Supported, Rises, Table}
-use Rattle.pursuit.specs.Tables.{lead_at, EachSupported}
-use Rattle.pursuit.proofs.Reading.{lead_past_route, lead_past_rival}
-use Rattle.pursuit.proofs.LegByLeg.{route_less, replies_less}
+use Rattle.pursuit.specs.Pursuits.{IsSupported, EveryLegRises, IsLeadTable}
+use Rattle.pursuit.specs.Leads.{lead_at, IsEachSupported}
+use Rattle.pursuit.proofs.ReadLegs.{lead_past_route, lead_past_rival}
+use Rattle.pursuit.proofs.LegLoops.{route_less, replies_less}
 
 module _ (t : Trip) (height : ℕ → ℕ) (offset : ℕ) (lead : ℕ → ℕ → ℕ) (a b : ℕ) where
   -- a lead of 0 needs no support
-  pub none_supports : (x : ℕ) → x ≡ 0 → Supported t height offset lead a b x
+  pub none_supports : (x : ℕ) → x ≡ 0 → IsSupported t height offset lead a b x
   none_supports x z = record {
     both_arrived = λ p q. omega arith;
     rival_past = λ p n l. z;
@@ -21,7 +21,7 @@ module _ (t : Trip) (height : ℕ → ℕ) (offset : ℕ) (lead : ℕ → ℕ �
   }
 
   -- a smaller lead is kept too
-  less_supports : (x y : ℕ) → y ≤ x → Supported t height offset lead a b x → Supported t height offset lead a b y
+  less_supports : (x y : ℕ) → y ≤ x → IsSupported t height offset lead a b x → IsSupported t height offset lead a b y
   less_supports x y le s = record {
     both_arrived = λ p q. let h = s.both_arrived p q in omega arith;
     rival_past = λ p n l. let h = s.rival_past p n l in omega arith;
@@ -33,17 +33,17 @@ module _ (t : Trip) (height : ℕ → ℕ) (offset : ℕ) (lead : ℕ → ℕ �
   }
 
   -- what a test by ≤ tells of the lead in the table
-  pub told_supports : (x y : ℕ) → x ≡ lead a b → Supported t height offset lead a b y → MatchBool (leb x y) (Supported t height offset lead a b (lead a b)) (Unit {0})
-  told_supports x y e s = by_test (leb x y) refl
+  pub told_supported : (x y : ℕ) → x ≡ lead a b → IsSupported t height offset lead a b y → MatchBool (leb x y) (IsSupported t height offset lead a b (lead a b)) (Unit {0})
+  told_supported x y e s = by_test (leb x y) refl
     where
-      by_test : (r : Bool) → leb x y ≡ r → MatchBool r (Supported t height offset lead a b (lead a b)) (Unit {0})
+      by_test : (r : Bool) → leb x y ≡ r → MatchBool r (IsSupported t height offset lead a b (lead a b)) (Unit {0})
       by_test true le = less_supports y (lead a b) (let l = leb-true x y le in omega arith) s
       by_test false le = tt
 
 -- a table in a list, whose rows and columns past the end say nothing
 module _ (t : Trip) (height : ℕ → ℕ) (offset : ℕ) (leads : List ℕ) where
-  pub table_told : Rises t height → EachSupported t height offset (lead_at leads) → Table t height offset (lead_at leads)
-  table_told rises each = record {
+  pub lead_table_told : EveryLegRises t height → IsEachSupported t height offset (lead_at leads) → IsLeadTable t height offset (lead_at leads)
+  lead_table_told rises each = record {
     rises = rises;
     supported = λ a b.
         ⊎_elim

@@ -9,8 +9,8 @@ use Rattle.chart.specs.Regret.{Trip, time}
 use Rattle.chart.proofs.Chains.{in_end}
 use Rattle.regret.proofs.Losing.{time_join}
 use Rattle.pursuit.specs.Rivals.{IsRivalLeg, Path}
-use Rattle.pursuit.specs.Pursuits.{Reaches}
-use Rattle.pursuit.specs.Tables.{AllReached}
+use Rattle.pursuit.specs.Pursuits.{RivalReaches}
+use Rattle.pursuit.specs.Leads.{AreReached}
 use Rattle.pursuit.proofs.Paths.{path_join}
 
 cases_ne : (x y : ℕ) → (x ≢ y) ⊎ (x ≡ y)
@@ -22,7 +22,7 @@ unset n b = ⊎_elim (λ lt. get_or-replicate n b None None lt) (λ past. get_or
 
 module _ (t : Trip) (height w : ℕ → ℕ) (h : ℕ) where
   -- by one leg more
-  reaches_on : (b d k : ℕ) → Reaches t height w h b d → IsRivalLeg t k → (at t.legs k).from ≡ b → height b < h → Reaches t height w h (at t.legs k).to (d + w k)
+  reaches_on : (b d k : ℕ) → RivalReaches t height w h b d → IsRivalLeg t k → (at t.legs k).from ≡ b → height b < h → RivalReaches t height w h (at t.legs k).to (d + w k)
   reaches_on b d k r leg from lt = record {
     by = r.by ++ k ∷ [];
     path = path_join (IsRivalLeg t) t.legs r.by (k ∷ []) t.from b (at t.legs k).to r.path (leg, from, refl);
@@ -31,7 +31,7 @@ module _ (t : Trip) (height w : ℕ → ℕ) (h : ℕ) where
   }
 
   -- the departure, before any leg
-  reaches_start : Reaches t height w h t.from 0
+  reaches_start : RivalReaches t height w h t.from 0
   reaches_start = record { by = []; path = refl; below = λ k i. absurd i; takes = omega arith }
 
   some_same : (x y : ℕ) → ◌≡◌ {A = Option ℕ} (Some x) (Some y) → x ≡ y
@@ -41,26 +41,26 @@ module _ (t : Trip) (height w : ℕ → ℕ) (h : ℕ) where
   none_some x e = let z : ◌≡◌ {A = ℕ} 0 1 = cc in omega arith
 
   -- one more time is known
-  pub all_on : (times : List (Option ℕ)) → AllReached t height w h times → (v x : ℕ) → Reaches t height w h v x → AllReached t height w h (set times v (Some x))
+  pub all_on : (times : List (Option ℕ)) → AreReached t height w h times → (v x : ℕ) → RivalReaches t height w h v x → AreReached t height w h (set times v (Some x))
   all_on times all v x r b d e =
       ⊎_elim
       (λ (other : b ≢ v). all b d (sym (get_or-set_other times v b (Some x) None other) ∙ e))
       (λ (same : b ≡ v). ⊎_elim
       (λ (lt : v < length times).
       let now : Some x ≡ Some d = sym (get_or-set_same times v (Some x) None lt) ∙ ap (λ y. get_or (set times v (Some x)) y None) (sym same) ∙ e in
-      subst (λ y. Reaches t height w h y d) (sym same) (subst (λ y. Reaches t height w h v y) (some_same x d now) r))
+      subst (λ y. RivalReaches t height w h y d) (sym same) (subst (λ y. RivalReaches t height w h v y) (some_same x d now) r))
       (λ (past : length times ≤ v). all b d (ap (λ ts. get_or ts b None) (sym (set_past times v (Some x) past)) ∙ e))
       (cases_lt v (length times)))
       (cases_ne b v)
 
   -- before any leg, the departure alone is reached
-  pub all_start : (n : ℕ) → AllReached t height w h (set (replicate n None) t.from (Some 0))
+  pub all_start : (n : ℕ) → AreReached t height w h (set (replicate n None) t.from (Some 0))
   all_start n = all_on (replicate n None) (λ b d e. absurd (none_some d (sym (unset n b) ∙ e))) t.from 0 reaches_start
 
   -- a leg is taken
-  pub all_taken : (times : List (Option ℕ)) → AllReached t height w h times → (k : ℕ) (leg : Leg) → leg ≡ at t.legs k → IsRivalLeg t k → height leg.from < h → (d x : ℕ) → Some d ≡ get_or times leg.from None → x ≡ d + w k → AllReached t height w h (set times leg.to (Some x))
+  pub all_taken : (times : List (Option ℕ)) → AreReached t height w h times → (k : ℕ) (leg : Leg) → leg ≡ at t.legs k → IsRivalLeg t k → height leg.from < h → (d x : ℕ) → Some d ≡ get_or times leg.from None → x ≡ d + w k → AreReached t height w h (set times leg.to (Some x))
   all_taken times all k leg is rival lt d x known sum =
       let from : (at t.legs k).from ≡ leg.from = ap (λ (l : Leg). l.from) (sym is) in
       let to : (at t.legs k).to ≡ leg.to = ap (λ (l : Leg). l.to) (sym is) in
       let r = reaches_on leg.from d k (all leg.from d (sym known)) rival from lt in
-      all_on times all leg.to x (subst (λ y. Reaches t height w h y x) to (subst (λ y. Reaches t height w h (at t.legs k).to y) (sym sum) r))
+      all_on times all leg.to x (subst (λ y. RivalReaches t height w h y x) to (subst (λ y. RivalReaches t height w h (at t.legs k).to y) (sym sum) r))

@@ -1,0 +1,9 @@
+use Rattle.chart.specs.Regret.{trip}
+use Rattle.search.specs.Snapshots.{legs_of}
+use Rattle.pursuit.specs.Leads.{height_at, lead_at}
+use Rattle.pursuit.proofs.SupportedLeads.{told_supported}
+use Rattle.pursuit.proofs.lead_tables.is_supported.Goals as goal
+
+pub returns-else-lead-eq0 : goal.returns-else-lead-eq0
+returns-else-lead-eq0 c =
+    told_supported (trip (legs_of c.args.snapshot.now) c.args.ends.from c.args.ends.to) (height_at c.args.heights.now) _ (lead_at c.args.leads.now) c.args.a c.args.b c.lead_between-lead.result c.lead_of.result c.lead_between-lead.ensures c.lead_of.ensures

@@ -1,9 +1,0 @@
-use Rattle.std.proofs.Common.{ℕ, ◌<◌}
-use Rattle.chart.specs.Regret.{trip}
-use Rattle.search.specs.Snapshots.{legs_of}
-use Rattle.pursuit.specs.declared.leads.TheConstants.{OFFSET}
-use Rattle.pursuit.specs.Tables.{height_at, lead_at, RowSupported}
-use Rattle.pursuit.proofs.tables.is_each_supported.Given as goal
-
-abbrev pub invariant-loop-a : goal.invariant-loop-a
-invariant-loop-a l = (j : ℕ) → j < l.a → RowSupported (trip (legs_of l.snapshot) l.ends.from l.ends.to) (height_at l.heights) OFFSET (lead_at l.leads) j
