@@ -1,16 +1,16 @@
 -- A pursuit bound is below the regret of every route that begins with the chain.
-use Rattle.std.proofs.Common.{◌≡◌, ℕ, ◌+◌, ◌<◌, ◌≤◌, List, ◌++◌, sym, ap, ◌∙◌, subst, inl, inr, ⊎_elim, arith}
+use Rattle.std.proofs.Common.{◌≡◌, ℕ, ◌<◌, ◌≤◌, List, ◌++◌, sym, ap, ◌∙◌, subst, ⊎_elim, arith}
 use Rattle.chart.specs.declared.leg.Leg.{Leg}
 use Rattle.chart.specs.Legs.{at}
-use Rattle.chart.specs.Routes.{Leads, In}
-use Rattle.chart.specs.Regret.{Trip, Flies, time, Choice, Regret}
+use Rattle.chart.specs.Routes.{In}
+use Rattle.chart.specs.Regret.{Trip, Flies, Choice, Regret}
 use Rattle.chart.specs.Floors.{highs}
 use Rattle.chart.proofs.Chains.{leads_on, in_front}
 use Rattle.regret.proofs.Worsts.{in_or, time_same}
 use Rattle.regret.proofs.Present.{worst_of, worst_is, regret_is_never_exceeded}
 use Rattle.regret.proofs.Losing.{time_join}
 use Rattle.floor.proofs.Parts.{in_behind, in_either}
-use Rattle.pursuit.specs.Rivals.{IsRouteLeg, IsRivalLeg, IsRival, Path}
+use Rattle.pursuit.specs.Rivals.{IsRouteLeg, IsRivalLeg, Path}
 use Rattle.pursuit.specs.Pursuits.{IsPursuitBound, PursuitBoundIsBelowEveryRegret}
 use Rattle.pursuit.proofs.Paths.{path_join, path_leaves, path_leaves_below, leads_path, route_legs, route_leg_is_rival_leg, path_is_rival}
 use Rattle.pursuit.proofs.KeptLeads.{Play, kept}

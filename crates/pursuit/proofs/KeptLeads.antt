@@ -1,7 +1,6 @@
 -- From two places where the table tells a lead, a rival keeps it on whatever way the route goes on.
-use Rattle.std.proofs.Common.{◌≡◌, ℕ, zero, suc, ◌+◌, ◌-◌, ◌<◌, ◌≤◌, ◌==◌, Bool, true, false, cond, ◌⊎◌, ◌≢◌, List, [], ◌∷◌, length, sym, refl, ap, ◌∙◌, subst, inl, inr, ⊎_elim, arith, eq-eqb, ne_eqb}
+use Rattle.std.proofs.Common.{◌≡◌, ℕ, zero, suc, ◌+◌, ◌-◌, ◌<◌, ◌≤◌, cond, ◌⊎◌, ◌≢◌, List, [], ◌∷◌, length, sym, refl, ap, ◌∙◌, subst, inl, inr, ⊎_elim, arith, eq-eqb, ne_eqb}
 use Rattle.std.proofs.lemmas.Bool.{cases_eq, cases_lt}
-use Rattle.chart.specs.declared.leg.Leg.{Leg}
 use Rattle.chart.specs.Legs.{at}
 use Rattle.chart.specs.Routes.{In}
 use Rattle.chart.specs.Regret.{Trip, time}
@@ -88,8 +87,8 @@ module _ {t : Trip} {height : ℕ → ℕ} {offset : ℕ} {lead : ℕ → ℕ �
         let high = play.on e (inl refl) in
         let level : height (at t.legs e).from ≡ height a = ap height from in
         let gone : (k : ℕ) → StillTo b (at t.legs k).from → k ≡ e → ⊥ = λ k s same.
-            let there : (at t.legs k).from ≡ a = ap (λ y. (at t.legs y).from) same ∙ from in
-            ⊎_elim (λ c. ne (sym there ∙ c)) (λ h. let l : height (at t.legs k).from ≡ height a = ap height there in omega arith) s in
+        let there : (at t.legs k).from ≡ a = ap (λ y. (at t.legs y).from) same ∙ from in
+        ⊎_elim (λ c. ne (sym there ∙ c)) (λ h. let l : height (at t.legs k).from ≡ height a = ap height there in omega arith) s in
         let rest = deeper ks (at t.legs e).to b (omega arith) (record {
           path = play.path.2;
           on = λ k i. play.on k (inr i);

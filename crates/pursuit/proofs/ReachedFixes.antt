@@ -4,11 +4,10 @@ use Rattle.std.proofs.lemmas.Bool.{cases_eq, cases_lt}
 use Rattle.std.proofs.lemmas.List.{get_or-set_other, get_or-set_same, get_or-replicate, length-replicate, get_or_past, set_past}
 use Rattle.chart.specs.declared.leg.Leg.{Leg}
 use Rattle.chart.specs.Legs.{at}
-use Rattle.chart.specs.Routes.{In}
-use Rattle.chart.specs.Regret.{Trip, time}
+use Rattle.chart.specs.Regret.{Trip}
 use Rattle.chart.proofs.Chains.{in_end}
 use Rattle.regret.proofs.Losing.{time_join}
-use Rattle.pursuit.specs.Rivals.{IsRivalLeg, Path}
+use Rattle.pursuit.specs.Rivals.{IsRivalLeg}
 use Rattle.pursuit.specs.Pursuits.{RivalReaches}
 use Rattle.pursuit.specs.Leads.{AreReached}
 use Rattle.pursuit.proofs.Paths.{path_join}

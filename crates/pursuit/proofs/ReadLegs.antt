@@ -1,9 +1,9 @@
 -- What a read of one leg, one height or one lead says.
-use Rattle.std.proofs.Common.{◌≡◌, ℕ, ◌+◌, ◌*◌, ◌<◌, ◌≤◌, cond, max, List, [], ◌∷◌, length, get_or, Some, None, Option, sym, ap, ◌∙◌, subst, ⊎_elim, arith}
-use Rattle.std.proofs.lemmas.Bool.{cases_eq, cases_lt, lt-ltb, le-ltb}
+use Rattle.std.proofs.Common.{◌≡◌, ℕ, ◌+◌, ◌*◌, ◌<◌, ◌≤◌, cond, List, get_or, Some, None, sym, ap, ◌∙◌, subst}
+use Rattle.std.proofs.lemmas.Bool.{lt-ltb, le-ltb}
 use Rattle.std.proofs.Math.Dec.{ltb}
 use Rattle.chart.specs.declared.leg.Leg.{Leg}
-use Rattle.chart.specs.Legs.{at, numbered}
+use Rattle.chart.specs.Legs.{numbered}
 use Rattle.chart.specs.Limits.{max_fixes}
 use Rattle.chart.specs.Regret.{Trip}
 use Rattle.chart.proofs.Numbers.{numbered_some, numbered_not}

@@ -32,7 +32,13 @@ fn lead_of(snapshot: &Snapshot, ends: Ends, heights: &[u16], leads: &[u32], a: u
 }
 
 // Fills the table, for the fixes in an order that begins with the highest. Nothing is promised of it, since it is checked.
-pub(crate) fn fill(snapshot: &Snapshot, ends: Ends, heights: &[u16], order: &[u16], leads: &mut [u32]) {
+pub(crate) fn fill(
+    snapshot: &Snapshot,
+    ends: Ends,
+    heights: &[u16],
+    order: &[u16],
+    leads: &mut [u32],
+) {
     for a in order {
         for b in order {
             let lead = lead_of(snapshot, ends, heights, leads, *a, *b);
@@ -42,7 +48,14 @@ pub(crate) fn fill(snapshot: &Snapshot, ends: Ends, heights: &[u16], order: &[u1
 }
 
 // Whether the next move keeps the lead of `a` and `b`.
-fn is_supported(snapshot: &Snapshot, ends: Ends, heights: &[u16], leads: &[u32], a: u16, b: u16) -> bool
+fn is_supported(
+    snapshot: &Snapshot,
+    ends: Ends,
+    heights: &[u16],
+    leads: &[u32],
+    a: u16,
+    b: u16,
+) -> bool
     ensures { MatchBool result (IsSupported (trip (legs_of snapshot.now) ends.from ends.to) (height_at heights.now) OFFSET (lead_at leads.now) a b (lead_at leads.now a b)) (Unit {0}) }
 {
     let lead = lead_between(leads, a, b);

@@ -30,7 +30,11 @@ pub(crate) fn route_leg(snapshot: &Snapshot, ends: Ends, k: u16) -> Option<Leg>
     ensures { LegRead ServesRoute (trip (legs_of snapshot.now) ends.from ends.to) k result }
 {
     let leg = snapshot.leg(k)?;
-    if serves_route(&leg, ends) { Some(leg) } else { None }
+    if serves_route(&leg, ends) {
+        Some(leg)
+    } else {
+        None
+    }
 }
 
 // The leg of the number `k`, where it may be on a rival between the ends.
@@ -38,5 +42,9 @@ pub(crate) fn rival_leg(snapshot: &Snapshot, ends: Ends, k: u16) -> Option<Leg>
     ensures { LegRead ServesRival (trip (legs_of snapshot.now) ends.from ends.to) k result }
 {
     let leg = snapshot.leg(k)?;
-    if serves_rival(&leg, ends) { Some(leg) } else { None }
+    if serves_rival(&leg, ends) {
+        Some(leg)
+    } else {
+        None
+    }
 }

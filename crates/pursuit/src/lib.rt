@@ -4,9 +4,9 @@
 
 pub mod bounds;
 mod heights;
+mod lead_tables;
 mod leads;
 mod legs;
 mod moves;
 pub mod pursuits;
 mod reaching;
-mod lead_tables;

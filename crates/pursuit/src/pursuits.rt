@@ -5,8 +5,8 @@ ghost use Rattle.search.specs.Snapshots.{legs_of};
 ghost use Rattle.pursuit.specs.Leads.{IsPursuit};
 
 use super::heights::{falling_order, find_heights};
-use super::leads::MAX_LEADS;
 use super::lead_tables::{fill, is_lead_table};
+use super::leads::MAX_LEADS;
 use arrayvec::ArrayVec;
 use chart::ends::Ends;
 use chart::limits::MAX_FIXES;
