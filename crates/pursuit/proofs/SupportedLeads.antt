@@ -2,7 +2,6 @@
 use Rattle.std.proofs.Common.{◌≡◌, ℕ, ◌<◌, ◌≤◌, Bool, true, false, MatchBool, List, sym, refl, ⊎_elim, arith}
 use Rattle.std.proofs.Math.Dec.{leb}
 use Rattle.std.proofs.lemmas.Bool.{cases_lt, leb-true}
-use Rattle.chart.specs.Limits.{max_fixes}
 use Rattle.chart.specs.Regret.{Trip}
 use Rattle.pursuit.specs.Pursuits.{IsSupported, EveryLegRises, IsLeadTable}
 use Rattle.pursuit.specs.Leads.{lead_at, IsEachSupported}
@@ -41,13 +40,13 @@ module _ (t : Trip) (height : ℕ → ℕ) (offset : ℕ) (lead : ℕ → ℕ �
       by_test false le = tt
 
 -- a table in a list, whose rows and columns past the end say nothing
-module _ (t : Trip) (height : ℕ → ℕ) (offset : ℕ) (leads : List ℕ) where
-  pub lead_table_told : EveryLegRises t height → IsEachSupported t height offset (lead_at leads) → IsLeadTable t height offset (lead_at leads)
+module _ (t : Trip) (height : ℕ → ℕ) (offset fixes : ℕ) (leads : List ℕ) where
+  pub lead_table_told : EveryLegRises t height → IsEachSupported fixes t height offset (lead_at fixes leads) → IsLeadTable t height offset (lead_at fixes leads)
   lead_table_told rises each = record {
     rises = rises;
     supported = λ a b.
         ⊎_elim
-        (λ (p : a < max_fixes). ⊎_elim (λ (q : b < max_fixes). each a p b q) (λ (q : max_fixes ≤ b). none_supports t height offset (lead_at leads) a b _ (sym (lead_past_rival leads a b p q))) (cases_lt b max_fixes))
-        (λ (p : max_fixes ≤ a). none_supports t height offset (lead_at leads) a b _ (sym (lead_past_route leads a b p)))
-        (cases_lt a max_fixes);
+        (λ (p : a < fixes). ⊎_elim (λ (q : b < fixes). each a p b q) (λ (q : fixes ≤ b). none_supports t height offset (lead_at fixes leads) a b _ (sym (lead_past_rival fixes leads a b p q))) (cases_lt b fixes))
+        (λ (p : fixes ≤ a). none_supports t height offset (lead_at fixes leads) a b _ (sym (lead_past_route fixes leads a b p)))
+        (cases_lt a fixes);
   }

@@ -16,22 +16,23 @@ use Rattle.pursuit.specs.declared.leads.TheConstants.{OFFSET}
 abbrev pub height_at : List ℕ → ℕ → ℕ
 height_at heights v = slice_index_or heights v 0
 
--- the lead of the route at a and the rival at b, in a list that has for each a a place for each b
-unfoldable pub lead_at : List ℕ → ℕ → ℕ → ℕ
-lead_at leads a b = cond (ltb a max_fixes) (cond (ltb b max_fixes) (slice_index_or leads (max_fixes * a + b) 0) 0) 0
+-- the lead of the route at a and the rival at b, both below `fixes`, in a list that has for each a a place for each b; none past
+-- them
+unfoldable pub lead_at : ℕ → List ℕ → ℕ → ℕ → ℕ
+lead_at fixes leads a b = cond (ltb a fixes) (cond (ltb b fixes) (slice_index_or leads (max_fixes * a + b) 0) 0) 0
 
 -- the leg of the number k, where it serves the trip as S says
 abbrev pub LegRead : (ℕ → ℕ → Leg → Type 0) → Trip → ℕ → Option Leg → Type 0
 LegRead S t k None = IsLegFor S t k → ⊥
 LegRead S t k (Some leg) = (leg ≡ at t.legs k) × IsLegFor S t k
 
--- each lead of the route at a is kept by the next move
-abbrev pub IsRowSupported : Trip → (ℕ → ℕ) → ℕ → (ℕ → ℕ → ℕ) → ℕ → Type 0
-IsRowSupported t height offset lead a = (b : ℕ) → b < max_fixes → IsSupported t height offset lead a b (lead a b)
+-- each lead of the route at a is kept by the next move, for each fix b of the chart
+abbrev pub IsRowSupported : ℕ → Trip → (ℕ → ℕ) → ℕ → (ℕ → ℕ → ℕ) → ℕ → Type 0
+IsRowSupported fixes t height offset lead a = (b : ℕ) → b < fixes → IsSupported t height offset lead a b (lead a b)
 
 -- and so is each lead
-abbrev pub IsEachSupported : Trip → (ℕ → ℕ) → ℕ → (ℕ → ℕ → ℕ) → Type 0
-IsEachSupported t height offset lead = (a : ℕ) → a < max_fixes → IsRowSupported t height offset lead a
+abbrev pub IsEachSupported : ℕ → Trip → (ℕ → ℕ) → ℕ → (ℕ → ℕ → ℕ) → Type 0
+IsEachSupported fixes t height offset lead = (a : ℕ) → a < fixes → IsRowSupported fixes t height offset lead a
 
 -- the time of each leg where the marked legs take their high time and all others their low
 abbrev pub own_high : List Leg → List Bool → ℕ → ℕ
@@ -44,12 +45,12 @@ AreReached t height w h times = (b d : ℕ) → slice_index_or times b None ≡ 
 
 -- heights and leads of the pursuit are a table of the trip
 abbrev pub IsPursuit : Trip → Pursuit → Type 0
-IsPursuit t p = IsLeadTable t (height_at p.heights) OFFSET (lead_at p.leads)
+IsPursuit t p = IsLeadTable t (height_at p.heights) OFFSET (lead_at p.fixes p.leads)
 
 -- a bound of x at the fix b, above 0, is told by the time of a rival who has reached b and by the lead from there
 pub record TellsBound (p : Pursuit) (walked : Walked) (times : List (Option ℕ)) (b x : ℕ) : Type 0 where
   pub time : ℕ
   pub reached : slice_index_or times b None ≡ Some time
   pub onward : height_at p.heights walked.end ≤ height_at p.heights b
-  pub told : 1 ≤ lead_at p.leads walked.end b
-  pub over : x + time + OFFSET ≤ walked.high + lead_at p.leads walked.end b
+  pub told : 1 ≤ lead_at p.fixes p.leads walked.end b
+  pub over : x + time + OFFSET ≤ walked.high + lead_at p.fixes p.leads walked.end b

@@ -25,7 +25,7 @@ fn bound_at(pursuit: &Pursuit, walked: &Walked, times: &[Option<u32>], b: u16) -
     let Some(time) = time_at(times, b) else {
         return 0;
     };
-    let lead = lead_between(&pursuit.leads, walked.end, b);
+    let lead = lead_between(&pursuit.leads, pursuit.fixes, walked.end, b);
     if lead == 0 {
         return 0;
     }

@@ -1,20 +1,20 @@
 // The table of leads of a chart, filled and then checked.
 ghost use Rattle.std.specs.Prelude.{MatchBool};
 ghost use Rattle.chart.specs.Regret.{trip};
-ghost use Rattle.search.specs.Snapshots.{legs_of};
+ghost use Rattle.search.specs.Snapshots.{fixes_of, legs_of};
 ghost use Rattle.pursuit.specs.Pursuits.{IsSupported, IsLeadTable};
 ghost use Rattle.pursuit.specs.Leads.{height_at, lead_at, IsRowSupported, IsEachSupported};
 
 use super::heights::{every_leg_rises, height_of};
 use super::leads::{OFFSET, lead_between, set_lead};
 use super::moves::{both_move, rival_moves, route_moves};
+use chart::charts::Chart;
 use chart::ends::Ends;
-use chart::limits::MAX_FIXES;
 use search::snapshot::Snapshot;
 
 // The lead that the next move keeps, the route being at `a` and the rival at `b`.
 fn lead_of(snapshot: &Snapshot, ends: Ends, heights: &[u16], leads: &[u32], a: u16, b: u16) -> u32
-    ensures { IsSupported (trip (legs_of snapshot.now) ends.from ends.to) (height_at heights.now) OFFSET (lead_at leads.now) a b result }
+    ensures { IsSupported (trip (legs_of snapshot.now) ends.from ends.to) (height_at heights.now) OFFSET (lead_at (fixes_of snapshot.now) leads.now) a b result }
 {
     if a == b {
         if a == ends.to {
@@ -56,17 +56,17 @@ fn is_supported(
     a: u16,
     b: u16,
 ) -> bool
-    ensures { MatchBool result (IsSupported (trip (legs_of snapshot.now) ends.from ends.to) (height_at heights.now) OFFSET (lead_at leads.now) a b (lead_at leads.now a b)) (Unit {0}) }
+    ensures { MatchBool result (IsSupported (trip (legs_of snapshot.now) ends.from ends.to) (height_at heights.now) OFFSET (lead_at (fixes_of snapshot.now) leads.now) a b (lead_at (fixes_of snapshot.now) leads.now a b)) (Unit {0}) }
 {
-    let lead = lead_between(leads, a, b);
+    let lead = lead_between(leads, snapshot.n(), a, b);
     lead == 0 || lead <= lead_of(snapshot, ends, heights, leads, a, b)
 }
 
 // Whether it keeps each lead of `a`.
 fn is_row_supported(snapshot: &Snapshot, ends: Ends, heights: &[u16], leads: &[u32], a: u16) -> bool
-    ensures { MatchBool result (IsRowSupported (trip (legs_of snapshot.now) ends.from ends.to) (height_at heights.now) OFFSET (lead_at leads.now) a) (Unit {0}) }
+    ensures { MatchBool result (IsRowSupported (fixes_of snapshot.now) (trip (legs_of snapshot.now) ends.from ends.to) (height_at heights.now) OFFSET (lead_at (fixes_of snapshot.now) leads.now) a) (Unit {0}) }
 {
-    for b in 0..MAX_FIXES as u16 {
+    for b in 0..snapshot.n() {
         if !is_supported(snapshot, ends, heights, leads, a, b) {
             return false;
         }
@@ -76,9 +76,9 @@ fn is_row_supported(snapshot: &Snapshot, ends: Ends, heights: &[u16], leads: &[u
 
 // Whether it keeps each lead.
 fn is_each_supported(snapshot: &Snapshot, ends: Ends, heights: &[u16], leads: &[u32]) -> bool
-    ensures { MatchBool result (IsEachSupported (trip (legs_of snapshot.now) ends.from ends.to) (height_at heights.now) OFFSET (lead_at leads.now)) (Unit {0}) }
+    ensures { MatchBool result (IsEachSupported (fixes_of snapshot.now) (trip (legs_of snapshot.now) ends.from ends.to) (height_at heights.now) OFFSET (lead_at (fixes_of snapshot.now) leads.now)) (Unit {0}) }
 {
-    for a in 0..MAX_FIXES as u16 {
+    for a in 0..snapshot.n() {
         if !is_row_supported(snapshot, ends, heights, leads, a) {
             return false;
         }
@@ -89,7 +89,7 @@ fn is_each_supported(snapshot: &Snapshot, ends: Ends, heights: &[u16], leads: &[
 // Whether heights and leads are what a pursuit needs: every leg leads to a higher fix, and the next move keeps each lead.
 #[tactic(auto, using(crate::proofs::SupportedLeads::lead_table_told))]
 pub(crate) fn is_lead_table(snapshot: &Snapshot, ends: Ends, heights: &[u16], leads: &[u32]) -> bool
-    ensures { MatchBool result (IsLeadTable (trip (legs_of snapshot.now) ends.from ends.to) (height_at heights.now) OFFSET (lead_at leads.now)) (Unit {0}) }
+    ensures { MatchBool result (IsLeadTable (trip (legs_of snapshot.now) ends.from ends.to) (height_at heights.now) OFFSET (lead_at (fixes_of snapshot.now) leads.now)) (Unit {0}) }
 {
     every_leg_rises(snapshot, ends, heights) && is_each_supported(snapshot, ends, heights, leads)
 }

@@ -13,19 +13,21 @@ pub(crate) const OFFSET: u32 = 1 << 25;
 // The lead where the route has no way on: no route of a chart takes so long that a lower lead could be mistaken for it.
 pub(crate) const ENDLESS: u32 = 1 << 28;
 
-// The lead of the route at `a` and the rival at `b`.
+// The lead of the route at `a` and the rival at `b`, in the table of a chart with so many fixes; none past them.
 #[tactic(auto, using(crate::proofs::ReadLegs::lead_there, crate::proofs::ReadLegs::lead_past_route, crate::proofs::ReadLegs::lead_past_rival))]
-pub(crate) fn lead_between(leads: &[u32], a: u16, b: u16) -> u32
-    ensures { result ≡ lead_at leads.now a b }
+pub(crate) fn lead_between(leads: &[u32], fixes: u16, a: u16, b: u16) -> u32
+    ensures { result ≡ lead_at fixes leads.now a b }
 {
-    let (a, b) = (a as usize, b as usize);
-    if a >= MAX_FIXES {
+    if a >= fixes {
         return 0;
     }
-    if b >= MAX_FIXES {
+    if b >= fixes {
         return 0;
     }
-    leads.get(MAX_FIXES * a + b).copied().unwrap_or(0)
+    leads
+        .get(MAX_FIXES * a as usize + b as usize)
+        .copied()
+        .unwrap_or(0)
 }
 
 // Sets the lead of the route at `a` and the rival at `b`.

@@ -8,13 +8,15 @@ use super::heights::{falling_order, find_heights};
 use super::lead_tables::{fill, is_lead_table};
 use super::leads::MAX_LEADS;
 use arrayvec::ArrayVec;
+use chart::charts::Chart;
 use chart::ends::Ends;
 use chart::limits::MAX_FIXES;
 use search::snapshot::Snapshot;
 
-// Heights and leads, and the fixes of the chart, the highest first.
+// How many fixes the chart has, their heights, the fixes from the highest down, and the table of leads.
 #[derive(Drop)]
 pub struct Pursuit {
+    pub(crate) fixes: u16,
     pub(crate) heights: [u16; MAX_FIXES],
     pub(crate) order: ArrayVec<u16, MAX_FIXES>,
     pub(crate) leads: [u32; MAX_LEADS],
@@ -32,6 +34,7 @@ pub fn pursue(snapshot: &Snapshot, ends: Ends) -> Option<Pursuit>
         return None;
     }
     Some(Pursuit {
+        fixes: snapshot.n(),
         heights,
         order,
         leads,
