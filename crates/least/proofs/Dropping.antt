@@ -4,7 +4,7 @@ use Rattle.std.proofs.Common.{ℕ, ◌*◌, ◌<◌, ◌≤◌, Bool, true, fals
 use Rattle.chart.specs.Regret.{Trip, Flies, Regret, Beats}
 use Rattle.chart.specs.Limits.{max_fixes, max_seconds}
 use Rattle.chart.specs.Legs.{Charted}
-use Rattle.chart.specs.Floors.{Begins, highs}
+use Rattle.chart.specs.Floors.{highs}
 use Rattle.chart.proofs.Short.{routes_short}
 use Rattle.regret.proofs.Worsts.{legs_there, time_le}
 use Rattle.regret.proofs.Losing.{highs_small}
