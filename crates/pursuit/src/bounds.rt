@@ -36,7 +36,9 @@ fn bound_at(pursuit: &Pursuit, walked: &Walked, times: &[Option<u32>], b: u16) -
         .saturating_sub(OFFSET)
 }
 
-// The pursuit bound of a list of legs between two ends; 0 where it is no chain.
+// The pursuit bound of a list of legs between two ends; 0 where it is no chain. It is called at each step of a deep recursion,
+// whose frames are to stay small.
+#[inline(never)]
 pub fn bound(snapshot: &Snapshot, ends: Ends, pursuit: &Pursuit, chain: &[u16]) -> u32
     requires { IsPursuit (trip (legs_of snapshot.now) ends.from ends.to) pursuit.now }
     ensures below { IsBelowRegrets (trip (legs_of snapshot.now) ends.from ends.to) chain.now result }

@@ -2,10 +2,10 @@
 ghost use Rattle.std.specs.Prelude.{MatchBool};
 ghost use Rattle.chart.specs.Regret.{trip};
 ghost use Rattle.search.specs.Snapshots.{fixes_of, legs_of};
-ghost use Rattle.pursuit.specs.Pursuits.{IsSupported, IsLeadTable};
+ghost use Rattle.pursuit.specs.Pursuits.{IsSupported};
 ghost use Rattle.pursuit.specs.Leads.{height_at, lead_at, IsRowSupported, IsEachSupported};
 
-use super::heights::{every_leg_rises, height_of};
+use super::heights::height_of;
 use super::leads::{OFFSET, lead_between, set_lead};
 use super::moves::{both_move, rival_moves, route_moves};
 use chart::charts::Chart;
@@ -75,7 +75,12 @@ fn is_row_supported(snapshot: &Snapshot, ends: Ends, heights: &[u16], leads: &[u
 }
 
 // Whether it keeps each lead.
-fn is_each_supported(snapshot: &Snapshot, ends: Ends, heights: &[u16], leads: &[u32]) -> bool
+pub(crate) fn is_each_supported(
+    snapshot: &Snapshot,
+    ends: Ends,
+    heights: &[u16],
+    leads: &[u32],
+) -> bool
     ensures { MatchBool result (IsEachSupported (fixes_of snapshot.now) (trip (legs_of snapshot.now) ends.from ends.to) (height_at heights.now) OFFSET (lead_at (fixes_of snapshot.now) leads.now)) (Unit {0}) }
 {
     for a in 0..snapshot.n() {
@@ -84,12 +89,4 @@ fn is_each_supported(snapshot: &Snapshot, ends: Ends, heights: &[u16], leads: &[
         }
     }
     true
-}
-
-// Whether heights and leads are what a pursuit needs: every leg leads to a higher fix, and the next move keeps each lead.
-#[tactic(auto, using(crate::proofs::SupportedLeads::lead_table_told))]
-pub(crate) fn is_lead_table(snapshot: &Snapshot, ends: Ends, heights: &[u16], leads: &[u32]) -> bool
-    ensures { MatchBool result (IsLeadTable (trip (legs_of snapshot.now) ends.from ends.to) (height_at heights.now) OFFSET (lead_at (fixes_of snapshot.now) leads.now)) (Unit {0}) }
-{
-    every_leg_rises(snapshot, ends, heights) && is_each_supported(snapshot, ends, heights, leads)
 }
