@@ -1,14 +1,14 @@
 -- The search over all routes that begin with a chain.
-use Rattle.std.proofs.Common.{◌≡◌, ℕ, ◌+◌, ◌-◌, ◌<◌, ◌≤◌, true, false, List, [], ◌∷◌, ◌++◌, length, get_or, take, set, Some, Option, sym, refl, ap, ◌∙◌, subst, arith, length-set, length-append}
+use Rattle.std.proofs.Common.{◌≡◌, ℕ, ◌+◌, ◌-◌, ◌*◌, ◌<◌, ◌≤◌, true, false, List, [], ◌∷◌, ◌++◌, length, get_or, take, set, Some, Option, sym, refl, ap, ◌∙◌, subst, inr, arith, length-set, length-append}
 use Rattle.std.proofs.lemmas.List.{take_at, append_assoc, append-nil, set-set, set-get_or}
-use Rattle.std.proofs.lemmas.Bool.{cases_eq, cases_lt}
+use Rattle.std.proofs.lemmas.Bool.{cases_eq, cases_lt, false_from_ne_true}
 use Rattle.arrayvec.specs.ArrayVec.{ArrayVec}
 use Rattle.chart.specs.declared.leg.Leg.{Leg}
-use Rattle.chart.specs.Limits.{max_fixes}
+use Rattle.chart.specs.Limits.{max_fixes, max_legs, max_seconds}
 use Rattle.chart.specs.Legs.{at}
 use Rattle.chart.specs.Routes.{Leads, Chain}
-use Rattle.chart.specs.Regret.{Trip, Flies}
-use Rattle.chart.specs.Floors.{Begins}
+use Rattle.chart.specs.Regret.{Trip, Flies, time}
+use Rattle.chart.specs.Floors.{Begins, highs}
 use Rattle.chart.proofs.Chains.{leads_end}
 use Rattle.chart.proofs.Short.{chain_short}
 use Rattle.chart.proofs.Within.{route_goes_away}
@@ -16,9 +16,10 @@ use Rattle.search.specs.Index.{leaving}
 use Rattle.search.specs.Snapshots.{legs_of}
 use Rattle.search.specs.Sound.{snapshot_charted}
 use Rattle.search.proofs.Leaving.{leaving_ends, leaving_goes_on}
-use Rattle.regret.specs.Walks.{Walk, Steps, StepsAlong}
-use Rattle.regret.proofs.Walks.{walk_push, chain_steps}
-use Rattle.regret.proofs.Losing.{step_known}
+use Rattle.regret.specs.Walks.{Flags, Walk, Steps, StepsAlong}
+use Rattle.regret.proofs.Walks.{flags_push, true_false, walk_push, chain_steps}
+use Rattle.regret.proofs.Losing.{highs_small, step_known, time_join}
+use Rattle.regret.proofs.Worsts.{in_entered}
 use Rattle.least.specs.declared.sweep.Best.{Best}
 use Rattle.least.specs.declared.sweep.Sweep.{Sweep}
 use Rattle.least.specs.Sweeps.{trip_of, Swept, BestAlone, GoesOn, GoesBelow, Ready}
@@ -84,15 +85,41 @@ module _ {s : Sweep} {here : ℕ} (ready : Ready s here) where
     pub to_small : leg.to < max_fixes
     to_small = (step_known (legs_of s.snapshot.now) (snapshot_charted s.snapshot.now) here s.used k leg on.0 on.1).to_small
 
+    takes : leg.high ≡ (at (legs_of s.snapshot.now) k).high
+    takes = ap (λ (l : Leg). l.high) on.0
+
+    pub number_small : k < max_legs
+    number_small = (step_known (legs_of s.snapshot.now) (snapshot_charted s.snapshot.now) here s.used k leg on.0 on.1).number_small
+
+    -- its high time fits beside those of the chain
+    pub sum_small : s.high + leg.high ≤ max_seconds * max_fixes
+    sum_small =
+        let small = highs_small (legs_of s.snapshot.now) ks in
+        omega (arith, depth_small, ready.sums, leg.bounded)
+
+    -- it is not yet marked, since the fix that it enters is not used
+    unmarked : get_or s.marks k false ≡ false
+    unmarked = false_from_ne_true _ (λ e.
+        true_false _ (ready.walk.flags.on (at t.legs k).to (inr (in_entered t.legs ks k (ready.marked.back k e)))) on.1.fresh)
+
     -- and is put at the end of the chain
     module _ (chain : ArrayVec ℕ) (pushed : chain.items ≡ s.chain.items ++ k ∷ []) where
-      pub ready_deeper : Ready (record s { chain = chain; used = set s.used leg.to true }) leg.to
+      abbrev deeper : Sweep
+      deeper = record s { chain = chain; used = set s.used leg.to true; marks = set s.marks k true; high = s.high + leg.high }
+
+      pub ready_deeper : Ready deeper leg.to
       ready_deeper = record {
         leaves = ready.leaves;
         useds = length-set s.used leg.to true ∙ ready.useds;
+        places = length-set s.marks k true ∙ ready.places;
         walk = subst (λ l. Walk t.legs t.from l leg.to (set s.used leg.to true)) (sym pushed)
             (subst (λ y. Walk t.legs t.from (ks ++ k ∷ []) y (set s.used y true)) (sym is)
             (walk_push t.legs t.from ks here s.used ready.walk k on.1 (omega (arith, is, to_small, ready.useds))));
+        marked = subst (λ l. Flags (set s.marks k true) l) (sym pushed) (flags_push s.marks ks k (omega (arith, number_small, ready.places)) ready.marked);
+        sums =
+            let j = time_join (highs t.legs) ks (k ∷ []) in
+            let sum : s.high + leg.high ≡ time (highs t.legs) (ks ++ k ∷ []) = omega (arith, ready.sums, takes) in
+            sum ∙ ap (time (highs t.legs)) (sym pushed);
         sound = ready.sound;
         pursued = ready.pursued;
       }
@@ -100,17 +127,26 @@ module _ {s : Sweep} {here : ℕ} (ready : Ready s here) where
       pub swept_deeper : {best : Option Best} → Swept (trip_of s) s.best best (Begins chain.items) → Swept (trip_of s) s.best best (GoesOn s.chain.items k)
       swept_deeper w = swept_of w (λ q flies g. (g.0, g.1 ∙ sym (append_assoc ks (k ∷ []) g.0) ∙ ap (λ l. l ++ g.0) (sym pushed)))
 
-      -- once the leg is taken off and its fix is free again, the search is what it was, except for its best
-      pub stands_again : (s₂ : Sweep) → s₂ ≡ record s { chain = chain; used = set s.used leg.to true; best = s₂.best } → (chain₂ : ArrayVec ℕ) → chain₂.items ≡ take (length s₂.chain.items - 1) s₂.chain.items → record s₂ { chain = chain₂; used = set s₂.used leg.to false } ≡ record s { best = s₂.best }
-      stands_again s₂ e chain₂ popped =
-          let free : get_or s.used leg.to false ≡ false = ap (λ y. get_or s.used y false) is ∙ on.1.fresh in
-          let used : set s₂.used leg.to false ≡ s.used = ap (λ (x : Sweep). set x.used leg.to false) e ∙ set-set s.used leg.to true false ∙ ap (λ b. set s.used leg.to b) (sym free) ∙ set-get_or s.used leg.to false in
-          let items : chain₂.items ≡ ks =
-          popped ∙ ap (λ (x : Sweep). take (length x.chain.items - 1) x.chain.items) e ∙ ap (λ l. take (length l - 1) l) pushed
-          ∙ take_at ks (k ∷ []) (length (ks ++ k ∷ []) - 1) (omega (arith, length-append ks (k ∷ []))) in
-          ap (λ (x : Sweep). record x { chain = chain₂; used = set s₂.used leg.to false }) e
-          ∙ ap (λ u. record s { chain = chain₂; used = u; best = s₂.best }) used
-          ∙ ap (λ l. record s { chain = record { items = l }; best = s₂.best }) items
+      module _ (s₂ : Sweep) (e : s₂ ≡ record deeper { best = s₂.best }) where
+        -- the sum is not less than the leg's own time
+        pub sum_again : s₂.high ≡ s.high + leg.high
+        sum_again = ap (λ (x : Sweep). x.high) e
+
+        -- once the leg is taken off again, the search is what it was, except for its best
+        pub stands_again : (chain₂ : ArrayVec ℕ) → chain₂.items ≡ take (length s₂.chain.items - 1) s₂.chain.items → record s₂ { chain = chain₂; used = set s₂.used leg.to false; marks = set s₂.marks k false; high = s₂.high - leg.high } ≡ record s { best = s₂.best }
+        stands_again chain₂ popped =
+            let free : get_or s.used leg.to false ≡ false = ap (λ y. get_or s.used y false) is ∙ on.1.fresh in
+            let used : set s₂.used leg.to false ≡ s.used = ap (λ (x : Sweep). set x.used leg.to false) e ∙ set-set s.used leg.to true false ∙ ap (λ b. set s.used leg.to b) (sym free) ∙ set-get_or s.used leg.to false in
+            let marks : set s₂.marks k false ≡ s.marks = ap (λ (x : Sweep). set x.marks k false) e ∙ set-set s.marks k true false ∙ ap (λ b. set s.marks k b) (sym unmarked) ∙ set-get_or s.marks k false in
+            let high : s₂.high - leg.high ≡ s.high = omega (arith, sum_again) in
+            let items : chain₂.items ≡ ks =
+            popped ∙ ap (λ (x : Sweep). take (length x.chain.items - 1) x.chain.items) e ∙ ap (λ l. take (length l - 1) l) pushed
+            ∙ take_at ks (k ∷ []) (length (ks ++ k ∷ []) - 1) (omega (arith, length-append ks (k ∷ []))) in
+            ap (λ (x : Sweep). record x { chain = chain₂; used = set s₂.used leg.to false; marks = set s₂.marks k false; high = s₂.high - leg.high }) e
+            ∙ ap (λ u. record s { chain = chain₂; used = u; marks = set s₂.marks k false; high = s₂.high - leg.high; best = s₂.best }) used
+            ∙ ap (λ m. record s { chain = chain₂; marks = m; high = s₂.high - leg.high; best = s₂.best }) marks
+            ∙ ap (λ h. record s { chain = chain₂; high = h; best = s₂.best }) high
+            ∙ ap (λ l. record s { chain = record { items = l }; best = s₂.best }) items
 
   -- legs that do not leave the fix are passed over
   swept_past : {best : Option Best} (low high : ℕ) → ((k : ℕ) → low ≤ k → k < high → k < length t.legs → (at t.legs k).from ≡ here → ⊥) → Swept t s.best best (GoesBelow ks low) → Swept t s.best best (GoesBelow ks high)
@@ -122,7 +158,16 @@ module _ {s : Sweep} {here : ℕ} (ready : Ready s here) where
   module _ {s₁ : Sweep} {left : List ℕ} (turns : Turns s here s₁ left) where
     -- it may go on from there
     pub ready_again : Ready s₁ here
-    ready_again = subst (λ (x : Sweep). Ready x here) (sym turns.stands) (record { leaves = ready.leaves; useds = ready.useds; walk = ready.walk; sound = turns.swept.sound; pursued = ready.pursued })
+    ready_again = subst (λ (x : Sweep). Ready x here) (sym turns.stands) (record {
+      leaves = ready.leaves;
+      useds = ready.useds;
+      places = ready.places;
+      walk = ready.walk;
+      marked = ready.marked;
+      sums = ready.sums;
+      sound = turns.swept.sound;
+      pursued = ready.pursued;
+    })
 
     pub turns_again : (k : ℕ) (rest : List ℕ) → left ≡ k ∷ rest → (s₂ : Sweep) → Swept (trip_of s₁) s₁.best s₂.best (GoesOn s₁.chain.items k) → BestAlone s₁ s₂ → Turns s here s₂ rest
     turns_again k rest is s₂ turn stands =

@@ -1,21 +1,24 @@
 -- The whole search, and what of it is written.
 use Rattle.std.proofs.Common.{◌≡◌, ℕ, ◌+◌, ◌<◌, ◌≤◌, true, false, List, [], length, set, replicate, Some, None, Option, sym, refl, ap, ◌∙◌, subst, subst₂, ⊎_elim, arith, length-set}
 use Rattle.std.proofs.lemmas.List.{length-replicate}
-use Rattle.chart.specs.Limits.{max_fixes}
+use Rattle.chart.specs.Limits.{max_fixes, max_legs}
 use Rattle.chart.specs.Legs.{Charted}
-use Rattle.chart.specs.Regret.{Trip, LeastRegret}
-use Rattle.chart.specs.Floors.{Begins}
+use Rattle.chart.specs.Regret.{Trip, time, LeastRegret}
+use Rattle.chart.specs.Floors.{Begins, highs}
 use Rattle.chart.proofs.Short.{routes_short}
 use Rattle.search.specs.Snapshots.{fixes_of, legs_of}
 use Rattle.search.specs.Sound.{snapshot_charted}
-use Rattle.regret.specs.Walks.{Walk}
-use Rattle.regret.proofs.Walks.{walk_start}
+use Rattle.regret.specs.Walks.{Flags, Walk}
+use Rattle.regret.proofs.Walks.{flags_none, walk_start}
 use Rattle.least.specs.declared.sweep.Best.{Best}
 use Rattle.least.specs.declared.sweep.Sweep.{Sweep}
 use Rattle.least.specs.Sweeps.{trip_of, Sound, Swept, Pursued, Ready, Least}
 
-pub ready_first : (s : Sweep) → s.ends.from < fixes_of s.snapshot.now → s.chain.items ≡ [] → s.used ≡ set (replicate max_fixes false) s.ends.from true → s.best ≡ None → Pursued s → Ready s s.ends.from
-ready_first s leaves none unset nothing pursued = record {
+pub ready_first : (s : Sweep) → s.ends.from < fixes_of s.snapshot.now → s.chain.items ≡ [] → s.used ≡ set (replicate max_fixes false) s.ends.from true → s.marks ≡ replicate max_legs false → s.high ≡ 0 → s.best ≡ None → Pursued s → Ready s s.ends.from
+ready_first s leaves none unset unmarked zero nothing pursued = record {
+  places = ap length unmarked ∙ length-replicate max_legs false;
+  marked = subst₂ (λ m l. Flags m l) (sym unmarked) (sym none) (flags_none max_legs);
+  sums = zero ∙ ap (time (highs (legs_of s.snapshot.now))) (sym none);
   pursued = pursued;
   leaves = leaves;
   useds = ap length unset ∙ length-set (replicate max_fixes false) s.ends.from true ∙ length-replicate max_fixes false;

@@ -1,10 +1,10 @@
 -- The best route so far, and what a part of the search does to it.
 use Rattle.std.specs.Prelude.{◌≡◌, ℕ, ◌<◌, ◌⊎◌, List, ◌∷◌, ◌++◌, length, Some, None, Option, IfSome}
-use Rattle.chart.specs.Limits.{max_fixes}
-use Rattle.chart.specs.Regret.{Trip, trip, Flies, Regret, Beats, LeastRegret}
-use Rattle.chart.specs.Floors.{Begins}
+use Rattle.chart.specs.Limits.{max_fixes, max_legs}
+use Rattle.chart.specs.Regret.{Trip, trip, Flies, time, Regret, Beats, LeastRegret}
+use Rattle.chart.specs.Floors.{Begins, highs}
 use Rattle.search.specs.Snapshots.{fixes_of, legs_of}
-use Rattle.regret.specs.Walks.{Walk}
+use Rattle.regret.specs.Walks.{Flags, Walk}
 use Rattle.pursuit.specs.Leads.{IsPursuit}
 use Rattle.least.specs.declared.sweep.Best.{Best}
 use Rattle.least.specs.declared.sweep.Sweep.{Sweep}
@@ -58,11 +58,15 @@ Hopeless t ks best = (q : List ℕ) → Flies t q → Begins ks q → Covers t b
 abbrev pub Pursued : Sweep → Type 0
 Pursued s = IfSome s.pursuit (λ p. IsPursuit (trip_of s) p.now)
 
--- the search is at the fix `here`, where its chain ends, and just the fixes of the chain are used
+-- the search is at the fix `here`, where its chain ends; just the fixes of the chain are used, just its legs are marked, and
+-- their high times have the sum high
 pub record Ready (s : Sweep) (here : ℕ) : Type 0 where
   pub leaves : s.ends.from < fixes_of s.snapshot.now
   pub useds : length s.used ≡ max_fixes
+  pub places : length s.marks ≡ max_legs
   pub walk : Walk (legs_of s.snapshot.now) s.ends.from s.chain.items here s.used
+  pub marked : Flags s.marks s.chain.items
+  pub sums : s.high ≡ time (highs (legs_of s.snapshot.now)) s.chain.items
   pub sound : Sound (trip_of s) s.best
   pub pursued : Pursued s
 

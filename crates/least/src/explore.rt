@@ -18,7 +18,7 @@ impl<'a> Sweep<'a> {
             self.weigh();
             return;
         }
-        if self.is_hopeless() {
+        if self.is_hopeless(here) {
             return;
         }
         for k in self.snapshot.legs_from(here) {
@@ -37,9 +37,14 @@ impl<'a> Sweep<'a> {
             return;
         };
         let to = leg.to as usize;
+        let number = k as usize;
         self.chain.push(k);
         self.used[to] = true;
+        self.marks[number] = true;
+        self.high += leg.high;
         self.explore(leg.to);
+        self.high -= leg.high;
+        self.marks[number] = false;
         self.used[to] = false;
         self.chain.pop();
     }

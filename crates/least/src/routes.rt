@@ -12,9 +12,9 @@ use super::sweep::{Best, Sweep};
 use arrayvec::ArrayVec;
 use chart::charts::Chart;
 use chart::ends::Ends;
-use chart::limits::MAX_FIXES;
+use chart::limits::{MAX_FIXES, MAX_LEGS};
 use chart::routes::most_legs;
-use pursuit::pursuits::{Pursuit, pursue};
+use pursuit::pursuits::Pursuit;
 use search::snapshot::Snapshot;
 
 // The best of all routes between two ends, by a search with the pursuit, if there is one.
@@ -31,6 +31,8 @@ fn find_with<'a>(snapshot: &'a Snapshot, ends: Ends, pursuit: Option<&'a Pursuit
         pursuit,
         chain: ArrayVec::new(),
         used,
+        marks: [false; MAX_LEGS],
+        high: 0,
         best: None,
     };
     sweep.explore(ends.from);
@@ -44,8 +46,11 @@ fn find(snapshot: &Snapshot, ends: Ends) -> Option<Best>
     if ends.from >= snapshot.n() {
         return None;
     }
-    let pursuit = pursue(snapshot, ends);
-    find_with(snapshot, ends, pursuit.as_ref())
+    let mut pursuit = Pursuit::new();
+    if pursuit.fill(snapshot, ends) {
+        return find_with(snapshot, ends, Some(&pursuit));
+    }
+    find_with(snapshot, ends, None)
 }
 
 // Writes the route of least regret between two ends into the first places of the memory. There are to be as many places as

@@ -3,7 +3,7 @@ ghost use Rattle.std.specs.Prelude.{◌≡◌};
 
 use arrayvec::ArrayVec;
 use chart::ends::Ends;
-use chart::limits::MAX_FIXES;
+use chart::limits::{MAX_FIXES, MAX_LEGS};
 use pursuit::pursuits::Pursuit;
 use search::snapshot::Snapshot;
 
@@ -23,8 +23,8 @@ impl Best {
     }
 }
 
-// The search: the chain that it has come along, whose fixes are flagged, and the best route so far. The flags are a set of
-// fixed size, since no call allocates memory.
+// The search: the chain that it has come along, with a flag for each fix that the chain meets, a mark for each of its legs and
+// the sum of their high times, and the best route so far. Flags and marks are sets of fixed size, since no call allocates memory.
 #[derive(Drop)]
 pub(crate) struct Sweep<'a> {
     pub(crate) snapshot: &'a Snapshot,
@@ -32,5 +32,7 @@ pub(crate) struct Sweep<'a> {
     pub(crate) pursuit: Option<&'a Pursuit>,
     pub(crate) chain: ArrayVec<u16, MAX_FIXES>,
     pub(crate) used: [bool; MAX_FIXES],
+    pub(crate) marks: [bool; MAX_LEGS],
+    pub(crate) high: u32,
     pub(crate) best: Option<Best>,
 }

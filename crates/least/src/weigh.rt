@@ -7,7 +7,9 @@ use regret::regrets::regret_on;
 
 // Each call says that it leaves all but the best what it was: no type says what a call through `&mut self` leaves alone.
 impl<'a> Sweep<'a> {
-    // Keeps the chain where it is a route and better than the best so far.
+    // Keeps the chain where it is a route and better than the best so far. What it works on is kept out of the frames of the
+    // search.
+    #[inline(never)]
     pub(crate) fn weigh(&mut self)
         requires { Sound (trip_of self.old) self.old.best }
         ensures swept { Swept (trip_of self.old) self.old.best self.new.best (Only self.old.chain.items) }

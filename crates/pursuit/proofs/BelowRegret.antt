@@ -7,12 +7,13 @@ use Rattle.chart.specs.Regret.{Trip, Flies, Choice, Regret}
 use Rattle.chart.specs.Floors.{highs}
 use Rattle.chart.proofs.Chains.{leads_on, in_front}
 use Rattle.regret.proofs.Worsts.{in_or, time_same}
-use Rattle.regret.proofs.Present.{worst_of, worst_is, regret_is_never_exceeded}
+use Rattle.regret.proofs.Present.{worst_of, worst_is}
 use Rattle.regret.proofs.Losing.{time_join}
 use Rattle.floor.proofs.Parts.{in_behind, in_either}
 use Rattle.pursuit.specs.Rivals.{IsRouteLeg, IsRivalLeg, Path}
 use Rattle.pursuit.specs.Pursuits.{IsPursuitBound, PursuitBoundIsBelowEveryRegret}
-use Rattle.pursuit.proofs.Paths.{path_join, path_leaves, path_leaves_below, leads_path, route_legs, route_leg_is_rival_leg, path_is_rival}
+use Rattle.pursuit.proofs.Paths.{path_join, path_leaves, path_leaves_below, leads_path, route_legs, route_leg_is_rival_leg}
+use Rattle.pursuit.proofs.RivalsAreRoutes.{path_is_rival, regret_covers_rival}
 use Rattle.pursuit.proofs.KeptLeads.{Play, kept}
 
 -- the worst choice for a list is a choice of times
@@ -72,7 +73,7 @@ module _ (t : Trip) (ks rest : List ℕ) (x : ℕ) (bound : IsPursuitBound t ks 
       let r = bound.reaches.by ++ kept.by in
       let path = path_join (IsRivalLeg t) t.legs bound.reaches.by kept.by t.from bound.b t.to bound.reaches.path kept.path in
       let rival = path_is_rival t bound.height bound.table.rises r path (ks ++ rest) flies in
-      let never = regret_is_never_exceeded t (ks ++ rest) y regret w (worst_chosen t.legs (ks ++ rest)) r rival in
+      let never = regret_covers_rival t (ks ++ rest) y regret w (worst_chosen t.legs (ks ++ rest)) r rival in
       let whole = time_join w ks rest in
       let chain = time_same w (highs t.legs) ks (λ k i. on k (in_front ks rest k i)) in
       let theirs = time_join w bound.reaches.by kept.by in

@@ -1,4 +1,5 @@
 pub mod Paths
+pub mod RivalsAreRoutes
 pub mod KeptLeads
 pub mod BelowRegret
 pub mod ReadLegs

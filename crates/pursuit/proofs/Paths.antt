@@ -4,13 +4,11 @@ use Rattle.chart.specs.declared.leg.Leg.{Leg}
 use Rattle.chart.specs.declared.row.Standing.{Standing}
 use Rattle.chart.specs.declared.row.Standing.TheVariants.{Open, Closed}
 use Rattle.chart.specs.Legs.{at}
-use Rattle.chart.specs.Routes.{Leaves, Leads, entered, met, In, Once, Chain}
+use Rattle.chart.specs.Routes.{Leaves, Leads, entered, met, In, Once}
 use Rattle.chart.specs.Regret.{Trip, Flies}
 use Rattle.regret.proofs.Worsts.{in_entered}
-use Rattle.regret.proofs.Losing.{chain_is_route}
 use Rattle.floor.proofs.Fixes.{left_not_end}
-use Rattle.pursuit.specs.Rivals.{IsRouteLeg, IsRivalLeg, IsRival, Path}
-use Rattle.pursuit.specs.Pursuits.{EveryLegRises}
+use Rattle.pursuit.specs.Rivals.{IsRouteLeg, IsRivalLeg, Path}
 
 module _ (P : ℕ → Type 0) (legs : List Leg) where
   pub path_join : (ks ms : List ℕ) (a z b : ℕ) → Path P legs a ks z → Path P legs z ms b → Path P legs a (ks ++ ms) b
@@ -86,14 +84,8 @@ route_legs t p flies k i =
       };
     }
 
--- What is known of rivals. Where rivals are more than the routes, these change.
-
 open_not_closed : (s : Standing) → s ≡ Open → s ≢ Closed
 open_not_closed s e c = let d : Open ≡ Closed = sym e ∙ c in cc
-
-not_closed_open : (s : Standing) → s ≢ Closed → s ≡ Open
-not_closed_open Open n = refl
-not_closed_open Closed n = absurd (n refl)
 
 -- a leg that may be on a route may be on a rival
 pub route_leg_is_rival_leg : (t : Trip) (k : ℕ) → IsRouteLeg t k → IsRivalLeg t k
@@ -101,14 +93,3 @@ route_leg_is_rival_leg t k l = record {
   there = l.there;
   serves = record { stands = open_not_closed (at t.legs k).standing l.serves.stands; enters = l.serves.enters; leaves = l.serves.leaves };
 }
-
-path_leads : (t : Trip) (ks : List ℕ) (a z : ℕ) → Path (IsRivalLeg t) t.legs a ks z → Leads t.legs a ks z
-path_leads t [] a z e = e
-path_leads t (k ∷ ks) a z h =
-    (record { there = h.0.there; stands = not_closed_open (at t.legs k).standing h.0.serves.stands; from = h.1 }, path_leads t ks (at t.legs k).to z h.2)
-
--- a path of rivals' legs that rise, from the departure to the destination, is a rival, if there is a route
-pub path_is_rival : (t : Trip) (height : ℕ → ℕ) → EveryLegRises t height → (r : List ℕ) → Path (IsRivalLeg t) t.legs t.from r t.to → (p : List ℕ) → Flies t p → IsRival t r
-path_is_rival t height rises r path p flies =
-    let chain : Chain t.legs t.from r t.to = record { leads = path_leads t r t.from t.to path; once = path_once (IsRivalLeg t) t.legs height rises r t.from t.to path } in
-    chain_is_route t.legs t.from t.to t.to r chain refl p flies

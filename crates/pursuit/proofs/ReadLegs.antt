@@ -4,27 +4,27 @@ use Rattle.std.proofs.lemmas.Bool.{lt-ltb, le-ltb}
 use Rattle.std.proofs.Math.Dec.{ltb}
 use Rattle.chart.specs.declared.leg.Leg.{Leg}
 use Rattle.chart.specs.Legs.{numbered}
-use Rattle.chart.specs.Limits.{max_fixes}
+use Rattle.pursuit.specs.declared.leads.TheConstants.{PURSUIT_FIXES}
 use Rattle.chart.specs.Regret.{Trip}
 use Rattle.chart.proofs.Numbers.{numbered_some, numbered_not}
 use Rattle.pursuit.specs.Leads.{lead_at, LegRead}
 
 module _ (fixes : ℕ) (leads : List ℕ) (a b : ℕ) where
-  pub lead_there : a < fixes → b < fixes → get_or leads (max_fixes * a + b) 0 ≡ lead_at fixes leads a b
+  pub lead_there : a < fixes → b < fixes → get_or leads (PURSUIT_FIXES * a + b) 0 ≡ lead_at fixes leads a b
   unfolding lead_at
   lead_there p q =
-      let x : lead_at fixes leads a b ≡ cond (ltb b fixes) (get_or leads (max_fixes * a + b) 0) 0 = ap (λ r. cond r (cond (ltb b fixes) (get_or leads (max_fixes * a + b) 0) 0) 0) (lt-ltb a fixes p) in
-      sym (x ∙ ap (λ r. cond r (get_or leads (max_fixes * a + b) 0) 0) (lt-ltb b fixes q))
+      let x : lead_at fixes leads a b ≡ cond (ltb b fixes) (get_or leads (PURSUIT_FIXES * a + b) 0) 0 = ap (λ r. cond r (cond (ltb b fixes) (get_or leads (PURSUIT_FIXES * a + b) 0) 0) 0) (lt-ltb a fixes p) in
+      sym (x ∙ ap (λ r. cond r (get_or leads (PURSUIT_FIXES * a + b) 0) 0) (lt-ltb b fixes q))
 
   pub lead_past_route : fixes ≤ a → 0 ≡ lead_at fixes leads a b
   unfolding lead_at
-  lead_past_route p = sym (ap (λ r. cond r (cond (ltb b fixes) (get_or leads (max_fixes * a + b) 0) 0) 0) (le-ltb a fixes p))
+  lead_past_route p = sym (ap (λ r. cond r (cond (ltb b fixes) (get_or leads (PURSUIT_FIXES * a + b) 0) 0) 0) (le-ltb a fixes p))
 
   pub lead_past_rival : a < fixes → fixes ≤ b → 0 ≡ lead_at fixes leads a b
   unfolding lead_at
   lead_past_rival p q =
-      let x : lead_at fixes leads a b ≡ cond (ltb b fixes) (get_or leads (max_fixes * a + b) 0) 0 = ap (λ r. cond r (cond (ltb b fixes) (get_or leads (max_fixes * a + b) 0) 0) 0) (lt-ltb a fixes p) in
-      sym (x ∙ ap (λ r. cond r (get_or leads (max_fixes * a + b) 0) 0) (le-ltb b fixes q))
+      let x : lead_at fixes leads a b ≡ cond (ltb b fixes) (get_or leads (PURSUIT_FIXES * a + b) 0) 0 = ap (λ r. cond r (cond (ltb b fixes) (get_or leads (PURSUIT_FIXES * a + b) 0) 0) 0) (lt-ltb a fixes p) in
+      sym (x ∙ ap (λ r. cond r (get_or leads (PURSUIT_FIXES * a + b) 0) 0) (le-ltb b fixes q))
 
 -- a leg that was read, and tested for whether it serves
 module _ (S : ℕ → ℕ → Leg → Type 0) (t : Trip) (k : ℕ) where

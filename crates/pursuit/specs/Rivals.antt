@@ -30,8 +30,8 @@ IsRouteLeg = IsLegFor ServesRoute
 abbrev pub IsRivalLeg : Trip → ℕ → Type 0
 IsRivalLeg = IsLegFor ServesRival
 
--- the legs ks are a rival to the routes of the trip
-abbrev pub IsRival : Trip → List ℕ → Type 0
+-- the legs ks are a rival to the routes of the trip. It is no abbreviation, so that a proof that rests on it says so.
+unfoldable pub IsRival : Trip → List ℕ → Type 0
 IsRival = Flies
 
 -- the legs ks, one after the other and each of them with P, lead from the fix a to the fix z

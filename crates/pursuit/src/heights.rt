@@ -5,11 +5,11 @@ ghost use Rattle.search.specs.Snapshots.{legs_of};
 ghost use Rattle.pursuit.specs.Pursuits.{EveryLegRises};
 ghost use Rattle.pursuit.specs.Leads.{height_at};
 
+use super::leads::PURSUIT_FIXES;
 use super::legs::rival_leg;
 use arrayvec::ArrayVec;
 use chart::charts::Chart;
 use chart::ends::Ends;
-use chart::limits::MAX_FIXES;
 use search::snapshot::Snapshot;
 
 // The height of a fix.
@@ -39,15 +39,14 @@ fn lift(snapshot: &Snapshot, ends: Ends, heights: &mut [u16]) -> bool {
     lifted
 }
 
-// Heights that fit the chart if any do. Nothing is promised of them, since they are checked.
-pub(crate) fn find_heights(snapshot: &Snapshot, ends: Ends) -> [u16; MAX_FIXES] {
-    let mut heights = [0; MAX_FIXES];
+// Sets heights that fit the chart if any do. Nothing is promised of them, since they are checked.
+pub(crate) fn find_heights(snapshot: &Snapshot, ends: Ends, heights: &mut [u16]) {
+    heights.fill(0);
     for _ in 0..snapshot.n() {
-        if !lift(snapshot, ends, &mut heights) {
-            return heights;
+        if !lift(snapshot, ends, heights) {
+            return;
         }
     }
-    heights
 }
 
 // Whether every leg leads to a higher fix.
@@ -64,9 +63,13 @@ pub(crate) fn every_leg_rises(snapshot: &Snapshot, ends: Ends, heights: &[u16]) 
     true
 }
 
-// The fixes of the chart, the highest first. Nothing is promised of the order.
-pub(crate) fn falling_order(snapshot: &Snapshot, heights: &[u16]) -> ArrayVec<u16, MAX_FIXES> {
-    let mut order = ArrayVec::new();
+// Lists the fixes of the chart, the highest first. Nothing is promised of the order.
+pub(crate) fn falling_order(
+    snapshot: &Snapshot,
+    heights: &[u16],
+    order: &mut ArrayVec<u16, PURSUIT_FIXES>,
+) {
+    order.clear();
     for height in (0..=snapshot.n()).rev() {
         for fix in 0..snapshot.n() {
             if height_of(heights, fix) == height && !order.is_full() {
@@ -74,5 +77,4 @@ pub(crate) fn falling_order(snapshot: &Snapshot, heights: &[u16]) -> ArrayVec<u1
             }
         }
     }
-    order
 }

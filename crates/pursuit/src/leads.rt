@@ -2,10 +2,11 @@
 ghost use Rattle.std.specs.Prelude.{◌≡◌};
 ghost use Rattle.pursuit.specs.Leads.{lead_at};
 
-use chart::limits::MAX_FIXES;
+// How many fixes a table has room for. A chart of more fixes has no pursuit.
+pub(crate) const PURSUIT_FIXES: usize = 200;
 
 // A place for each two fixes.
-pub(crate) const MAX_LEADS: usize = MAX_FIXES * MAX_FIXES;
+pub(crate) const MAX_LEADS: usize = PURSUIT_FIXES * PURSUIT_FIXES;
 
 // The lead of 0 seconds. It is more than any route takes, so that a lead below zero is a number too.
 pub(crate) const OFFSET: u32 = 1 << 25;
@@ -25,7 +26,7 @@ pub(crate) fn lead_between(leads: &[u32], fixes: u16, a: u16, b: u16) -> u32
         return 0;
     }
     leads
-        .get(MAX_FIXES * a as usize + b as usize)
+        .get(PURSUIT_FIXES * a as usize + b as usize)
         .copied()
         .unwrap_or(0)
 }
@@ -33,10 +34,10 @@ pub(crate) fn lead_between(leads: &[u32], fixes: u16, a: u16, b: u16) -> u32
 // Sets the lead of the route at `a` and the rival at `b`.
 pub(crate) fn set_lead(leads: &mut [u32], a: u16, b: u16, lead: u32) {
     let (a, b) = (a as usize, b as usize);
-    if b >= MAX_FIXES {
+    if b >= PURSUIT_FIXES {
         return;
     }
-    if let Some(place) = leads.get_mut(MAX_FIXES * a + b) {
+    if let Some(place) = leads.get_mut(PURSUIT_FIXES * a + b) {
         *place = lead;
     }
 }

@@ -3,6 +3,7 @@
 #![tactic(auto)]
 
 pub mod bounds;
+pub mod chains;
 mod heights;
 mod lead_tables;
 mod leads;

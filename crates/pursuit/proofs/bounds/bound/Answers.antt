@@ -7,9 +7,6 @@ use Rattle.pursuit.proofs.LegLoops.{larger_is}
 use Rattle.pursuit.proofs.ToldBounds.{none_below, told_below, larger_below}
 use Rattle.pursuit.proofs.bounds.bound.Goals as goal
 
-pub returns-in_default-clause-below_every_regret : goal.returns-in_default-clause-below_every_regret
-returns-in_default-clause-below_every_regret c = pursuit_bound_is_below_every_regret
-
 pub returns-clause-below_every_regret : goal.returns-clause-below_every_regret
 returns-clause-below_every_regret c = pursuit_bound_is_below_every_regret
 
@@ -20,7 +17,7 @@ pub loop-b-preserved : goal.loop-b-preserved
 loop-b-preserved c =
     let t = trip (legs_of c.args.snapshot.now) c.args.ends.from c.args.ends.to in
     let p = c.args.pursuit.now in
-    let walked = c.in-Some.walked in
-    let reached = subst (λ h. AreReached t (height_at p.heights) (own_high (legs_of c.args.snapshot.now) walked.marks) h c.reach-times.result) c.height_of-below.ensures c.reach-times.ensures in
-    larger_below t c.args.chain.now c.loop-b.most c.bound_at.result c.max-most.result (larger_is _ _ _ c.max-most.ensures) c.loop-b.invariant
-    (told_below t c.args.chain.now p c.requires walked c.in-Some.ensures.1 c.reach-times.result reached c.loop-b.b c.bound_at.result c.bound_at.ensures)
+    let chain = c.args.chain.now in
+    let reached = subst (λ h. AreReached t (height_at p.heights) (own_high (legs_of c.args.snapshot.now) chain.marks.now) h c.reach-times.result) c.height_of-below.ensures c.reach-times.ensures in
+    larger_below t chain c.loop-b.most c.bound_at.result c.max-most.result (larger_is _ _ _ c.max-most.ensures) c.loop-b.invariant
+    (told_below t p c.requires chain c.reach-times.result reached c.loop-b.b c.bound_at.result c.bound_at.ensures)

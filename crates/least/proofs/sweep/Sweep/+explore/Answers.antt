@@ -1,6 +1,6 @@
 use Rattle.std.proofs.Common.{arith, rules}
 use Rattle.least.proofs.Sweeping.{swept_of}
-use Rattle.least.proofs.Exploring.{depth_small, only_itself, stuck, to_small, ready_deeper, swept_deeper, stands_again, turns_start, turns_again, turns_end}
+use Rattle.least.proofs.Exploring.{depth_small, only_itself, stuck, to_small, number_small, sum_small, ready_deeper, swept_deeper, stands_again, turns_start, turns_again, turns_end}
 use Rattle.least.proofs.sweep.Sweep.+explore.Goals as goal
 
 pub explore-returns-then-here-self-clause-swept : goal.explore-returns-then-here-self-clause-swept
@@ -31,6 +31,15 @@ explore_leg-explore-requires t c =
 
 pub explore_leg-bounds-self-to-2 : goal.explore_leg-bounds-self-to-2
 explore_leg-bounds-self-to-2 t c = to_small c.requires c.args.k c.in-Some.leg c.in-Some.ensures
+
+pub explore_leg-bounds-self-number : goal.explore_leg-bounds-self-number
+explore_leg-bounds-self-number t c = number_small c.requires c.args.k c.in-Some.leg c.in-Some.ensures
+
+pub explore_leg-overflow_add-self : goal.explore_leg-overflow_add-self
+explore_leg-overflow_add-self t c = let small = sum_small c.requires c.args.k c.in-Some.leg c.in-Some.ensures in omega arith
+
+pub explore_leg-bounds-self-number-2 : goal.explore_leg-bounds-self-number-2
+explore_leg-bounds-self-number-2 t c = number_small c.requires c.args.k c.in-Some.leg c.in-Some.ensures
 
 pub explore_leg-returns-clause-swept : goal.explore_leg-returns-clause-swept
 explore_leg-returns-clause-swept t c = swept_deeper c.requires c.args.k c.in-Some.leg c.in-Some.ensures c.push.new.self c.push.ensures.items c.explore.ensures.swept
