@@ -25,11 +25,12 @@ public:
         index();
         put_in_order();
         fill_leads();
-        explore(ends.from);
     }
 
+    void run() { explore(ends.from); }
+
     Route best;
-    long chains = 0;
+    long chains = 0; // that were looked at
 
 private:
     const Chart& chart;
@@ -228,6 +229,7 @@ static void answer(const char* name, const Chart& chart, Ends ends) {
     for (int call = 0; call < CALLS; ++call) {
         auto begin = std::chrono::steady_clock::now();
         Search search(chart, ends);
+        search.run();
         auto end = std::chrono::steady_clock::now();
         double us = std::chrono::duration<double, std::micro>(end - begin).count();
         if (call == 0 || us < least) least = us;
