@@ -3,7 +3,6 @@ use chart::ends::Ends;
 use chart::lattice::Lattice;
 use chart::limits::MAX_FIXES;
 use least::found::Found;
-use least::refusals::RouteRefusal;
 use least::routes::least_regret;
 use std::io;
 use std::time::{Duration, Instant};
