@@ -1,0 +1,46 @@
+// A route that is answered several times, and the least time that it took.
+use chart::ends::Ends;
+use chart::lattice::Lattice;
+use chart::limits::MAX_FIXES;
+use least::found::Found;
+use least::routes::least_regret;
+use std::io;
+use std::time::{Duration, Instant};
+
+const CALLS: u16 = 10;
+
+// No route has more legs.
+const MAX_ROUTE: usize = MAX_FIXES - 1;
+
+// The least time of several calls.
+fn least_time(rt: &HostRuntime, lattice: &Lattice, ends: Ends) -> io::Result<Duration> {
+    let mut least = Duration::MAX;
+    for _ in 0..CALLS {
+        let mut memory = [0; MAX_ROUTE];
+        let begin = Instant::now(rt)?;
+        let _answer = least_regret(lattice, ends, &mut memory);
+        least = least.min(begin.elapsed(rt)?);
+    }
+    Ok(least)
+}
+
+// Prints the route, and apart from it how many microseconds the call took.
+pub(crate) fn show(
+    rt: &HostRuntime,
+    name: &str,
+    lattice: &Lattice,
+    ends: Ends,
+) -> anyhow::Result<()> {
+    let mut memory = [0; MAX_ROUTE];
+    let Found { legs, regret } = least_regret(lattice, ends, &mut memory)?;
+    print!(rt; "{name} regret {regret} legs")?;
+    for leg in memory.iter().take(legs as usize) {
+        print!(rt; " {leg}")?;
+    }
+    println!(rt; "")?;
+    let tenths = least_time(rt, lattice, ends)?.as_nanos() / 100;
+    let whole = tenths / 10;
+    let part = tenths % 10;
+    eprintln!(rt; "{name} {whole}.{part} us")?;
+    Ok(())
+}
