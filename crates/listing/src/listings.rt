@@ -2,6 +2,7 @@
 use super::chains::{Chain, all_chains};
 use super::choices::{Choice, all_choices, least_time, time};
 use super::orders::comes_before;
+use super::worst::lost_at_worst;
 use chart::ends::Ends;
 use chart::row::Row;
 use std::alloc::{AllocError, Global};
@@ -15,13 +16,14 @@ const NOT_SO: u8 = 14;
 // The number of a refusal where there is no route.
 const NO_ROUTE: u8 = 25;
 
-// The legs of a chart, the chains that leave the departure, those of them that are routes, and all choices of times.
+// The legs of a chart, the chains that leave the departure, those of them that are routes, and all choices of times. There are
+// none where a route's regret is listed by its own worst choice.
 #[derive(Drop)]
 pub struct Listing {
     rows: Vec<Row>,
     chains: Vec<Chain>,
     routes: Vec<Vec<u16>>,
-    choices: Vec<Choice>,
+    choices: Option<Vec<Choice>>,
 }
 
 // A route and its regret.
@@ -55,16 +57,22 @@ fn shares_a_fix(a: &Row, b: &Row) -> bool {
 }
 
 impl Listing {
-    // The listing of a chart's legs between two fixes.
+    // The listing of a chart's legs between two fixes, by all choices.
     pub fn of(heap: Global, rows: &[Row], ends: Ends) -> Result<Listing, AllocError> {
+        let mut listing = Listing::at_worst(heap, rows, ends)?;
+        listing.choices = Some(all_choices(heap, rows, &listing.routes)?);
+        Ok(listing)
+    }
+
+    // The listing by the worst choice of each route alone.
+    pub fn at_worst(heap: Global, rows: &[Row], ends: Ends) -> Result<Listing, AllocError> {
         let chains = all_chains(heap, rows, ends.from)?;
         let routes = routes_to(heap, &chains, ends.to)?;
-        let choices = all_choices(heap, rows, &routes)?;
         Ok(Listing {
             rows: rows.to_vec(heap)?,
             chains,
             routes,
-            choices,
+            choices: None,
         })
     }
 
@@ -88,13 +96,16 @@ impl Listing {
         self.routes.iter().any(|route| route.as_slice() == list)
     }
 
-    // The largest loss of a list under any choice.
-    fn largest_loss(&self, list: &[u16]) -> u32 {
-        self.choices
-            .iter()
-            .map(|choice| choice.lost(list))
-            .max()
-            .unwrap_or(0)
+    // The largest loss of a route under any choice.
+    fn largest_loss(&self, route: &[u16]) -> u32 {
+        match &self.choices {
+            Some(choices) => choices
+                .iter()
+                .map(|choice| choice.lost(route))
+                .max()
+                .unwrap_or(0),
+            None => lost_at_worst(&self.rows, &self.routes, route),
+        }
     }
 
     // The regret of a list of legs.

@@ -1,19 +1,22 @@
 // Small charts, each with something that a search can get wrong.
+use super::compare::compare;
+use anyhow::Context;
 use chart::ends::Ends;
 use chart::row::{Row, Standing};
+use chart::table::Table;
 use std::alloc::{AllocError, Global};
 
 // An open leg of a case: from, to, low, high.
-pub type Plain = (u16, u16, u32, u32);
+type Plain = (u16, u16, u32, u32);
 
 // A chart of `fixes` fixes with some of its legs closed, and the two fixes that routes are listed between.
 #[derive(Clone, Copy)]
-pub struct Case {
-    pub name: &'static str,
-    pub fixes: u16,
-    pub ends: Ends,
-    pub legs: &'static [Plain],
-    pub closed: &'static [usize],
+struct Case {
+    name: &'static str,
+    fixes: u16,
+    ends: Ends,
+    legs: &'static [Plain],
+    closed: &'static [usize],
 }
 
 const FOUR_FIXES: [Plain; 5] = [
@@ -83,7 +86,78 @@ const LATER_IS_BETTER: [Plain; 6] = [
     (1, 3, 5, 70),
 ];
 
-static CASES: [Case; 14] = [
+// Fixes that a route comes to only after its destination, and from which none comes back; fix 4 is also passed on the way by a
+// leg without time.
+const PAST: [Plain; 9] = [
+    (0, 1, 10, 30),
+    (0, 2, 10, 30),
+    (1, 3, 10, 30),
+    (2, 3, 20, 20),
+    (2, 4, 0, 0),
+    (3, 4, 0, 1),
+    (4, 5, 0, 1),
+    (1, 5, 0, 0),
+    (1, 2, 0, 0),
+];
+
+// Layers of one, three, two and one fix, with legs that skip a layer.
+const ONE_HEIGHT: [Plain; 12] = [
+    (0, 1, 1, 2),
+    (0, 2, 1, 2),
+    (0, 3, 0, 2),
+    (1, 4, 0, 2),
+    (2, 4, 1, 1),
+    (2, 5, 0, 1),
+    (3, 5, 1, 2),
+    (4, 6, 0, 2),
+    (5, 6, 1, 1),
+    (0, 4, 2, 3),
+    (1, 6, 1, 3),
+    (0, 6, 3, 3),
+];
+
+// Legs from the middle into the departure, and out of the destination into the middle.
+const BACK_IN_LAYERS: [Plain; 11] = [
+    (1, 0, 0, 0),
+    (0, 1, 1, 2),
+    (0, 2, 0, 3),
+    (3, 0, 0, 0),
+    (1, 3, 0, 2),
+    (2, 3, 1, 1),
+    (1, 4, 1, 4),
+    (3, 4, 0, 1),
+    (4, 2, 0, 0),
+    (4, 1, 0, 0),
+    (2, 4, 2, 3),
+];
+
+// No order: three fixes that lead round, on the way.
+const ROUND: [Plain; 9] = [
+    (0, 1, 1, 2),
+    (1, 2, 0, 1),
+    (2, 3, 0, 1),
+    (3, 1, 0, 1),
+    (0, 3, 1, 3),
+    (1, 4, 2, 4),
+    (2, 4, 1, 4),
+    (3, 4, 0, 4),
+    (0, 2, 2, 2),
+];
+
+// A first leg without time, and a long way from there to a dead end.
+const LONG_DEAD_END: [Plain; 9] = [
+    (0, 1, 0, 0),
+    (1, 2, 0, 0),
+    (2, 3, 0, 0),
+    (3, 4, 0, 0),
+    (0, 5, 1, 2),
+    (5, 6, 1, 2),
+    (0, 6, 2, 4),
+    (1, 5, 2, 2),
+    (5, 4, 0, 0),
+];
+
+static CASES: [Case; 22] = [
     Case {
         name: "four fixes",
         fixes: 4,
@@ -182,11 +256,63 @@ static CASES: [Case; 14] = [
         legs: &LATER_IS_BETTER,
         closed: &[],
     },
+    Case {
+        name: "fixes past the destination",
+        fixes: 6,
+        ends: Ends { from: 0, to: 3 },
+        legs: &PAST,
+        closed: &[],
+    },
+    Case {
+        name: "fixes past the destination, from the second fix",
+        fixes: 6,
+        ends: Ends { from: 1, to: 4 },
+        legs: &PAST,
+        closed: &[],
+    },
+    Case {
+        name: "fixes of one height",
+        fixes: 7,
+        ends: Ends { from: 0, to: 6 },
+        legs: &ONE_HEIGHT,
+        closed: &[],
+    },
+    Case {
+        name: "fixes of one height, some legs closed",
+        fixes: 7,
+        ends: Ends { from: 0, to: 6 },
+        legs: &ONE_HEIGHT,
+        closed: &[5, 9, 11],
+    },
+    Case {
+        name: "fixes of one height, other ends",
+        fixes: 7,
+        ends: Ends { from: 0, to: 4 },
+        legs: &ONE_HEIGHT,
+        closed: &[],
+    },
+    Case {
+        name: "legs back to the ends",
+        fixes: 5,
+        ends: Ends { from: 0, to: 4 },
+        legs: &BACK_IN_LAYERS,
+        closed: &[],
+    },
+    Case {
+        name: "legs that lead round",
+        fixes: 5,
+        ends: Ends { from: 0, to: 4 },
+        legs: &ROUND,
+        closed: &[],
+    },
+    Case {
+        name: "a long dead end",
+        fixes: 7,
+        ends: Ends { from: 0, to: 6 },
+        legs: &LONG_DEAD_END,
+        closed: &[],
+    },
 ];
-
-pub fn all_cases() -> &'static [Case] {
-    &CASES
-}
 
 impl Case {
     // The row of the leg `k`.
@@ -207,11 +333,29 @@ impl Case {
     }
 
     // The rows of its legs.
-    pub fn rows(&self, heap: Global) -> Result<Vec<Row>, AllocError> {
+    fn rows(&self, heap: Global) -> Result<Vec<Row>, AllocError> {
         self.legs
             .iter()
             .enumerate()
             .map(|(k, leg)| self.row(k, leg))
             .collect(heap)
     }
+
+    fn show(&self, rt: &HostRuntime) -> anyhow::Result<()> {
+        let name = self.name;
+        let rows = self.rows(rt.alloc())?;
+        let table = Table::of(self.fixes, &rows).context(name)?;
+        let listing = compare(rt.alloc(), &table, self.ends, &rows).context(name)?;
+        let all = listing.chains().len();
+        let flown = listing.routes().len();
+        println!(rt; "{name}: {all} chains, {flown} routes, as listed")?;
+        Ok(())
+    }
+}
+
+pub fn show_cases(rt: &HostRuntime) -> anyhow::Result<()> {
+    for case in &CASES {
+        case.show(rt)?;
+    }
+    Ok(())
 }

@@ -1,20 +1,22 @@
-// One small chart: what the calls answer, beside the listing.
-use super::cases::Case;
-use anyhow::{bail, ensure};
+// What the calls answer on a small chart between two ends, beside the listing.
+use anyhow::{Context, ensure};
 use chart::charts::Chart;
 use chart::ends::Ends;
 use chart::refusals::Refusal;
-use chart::table::Table;
+use chart::row::Row;
 use floor::floors::floor;
 use least::routes::least_regret;
 use listing::listings::Listing;
 use regret::regrets::regret;
 use std::alloc::{AllocError, Global};
 
-// More places than any route of a case has legs, and what they hold before a call.
-const PLACES: usize = 9;
+// More places than any route of a small chart has legs, and what they hold before a call.
+const PLACES: usize = 24;
 
 const MARK: u16 = 9999;
+
+// Charts of so many legs are listed both ways: by all choices of times, and by the worst choice of each route alone.
+const FEW: usize = 10;
 
 // Whether all places hold their mark.
 fn are_marked(places: &[u16]) -> bool {
@@ -90,25 +92,29 @@ fn routes_agree<C: Chart>(chart: &C, ends: Ends, listing: &Listing) -> bool {
         && holds_on(PLACES, |places| route_agrees(chart, ends, listing, places))
 }
 
-pub fn show(rt: &HostRuntime, case: &Case) -> anyhow::Result<()> {
-    let name = case.name;
-    let ends = case.ends;
-    let rows = case.rows(rt.alloc())?;
-    let table = match Table::of(case.fixes, &rows) {
-        Ok(table) => table,
-        Err(refusal) => bail!("{name}: table refused {}", refusal.number()),
-    };
-    let listing = Listing::of(rt.alloc(), &rows, ends)?;
-    let regrets = count_regrets(&table, ends, &listing);
-    let floors = count_floors(rt.alloc(), &table, ends, &listing)?;
-    ensure!(regrets == 0, "{name}: {regrets} regrets differ");
-    ensure!(floors == 0, "{name}: {floors} floors differ");
-    ensure!(
-        routes_agree(&table, ends, &listing),
-        "{name}: the route differs"
-    );
-    let all = listing.chains().len();
-    let flown = listing.routes().len();
-    println!(rt; "{name}: {all} chains, {flown} routes, as listed")?;
-    Ok(())
+// Whether every route has the same regret in both listings.
+fn ways_agree(all: &Listing, worst: &Listing) -> bool {
+    all.routes()
+        .iter()
+        .all(|route| all.regret(route) == worst.regret(route))
+}
+
+// The listing of a chart with these legs between two ends, with which the calls agree.
+pub fn compare<C: Chart>(
+    heap: Global,
+    chart: &C,
+    ends: Ends,
+    rows: &[Row],
+) -> anyhow::Result<Listing> {
+    let listing = Listing::at_worst(heap, rows, ends)?;
+    if rows.len() <= FEW {
+        let all = Listing::of(heap, rows, ends)?;
+        ensure!(ways_agree(&all, &listing), "the listings differ");
+    }
+    let regrets = count_regrets(chart, ends, &listing);
+    let floors = count_floors(heap, chart, ends, &listing)?;
+    ensure!(regrets == 0, "{regrets} regrets differ");
+    ensure!(floors == 0, "{floors} floors differ");
+    ensure!(routes_agree(chart, ends, &listing), "the route differs");
+    Ok(listing)
 }

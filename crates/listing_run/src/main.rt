@@ -3,13 +3,17 @@
 
 mod cases;
 mod compare;
+mod drawn;
+mod lattices;
+mod tally;
+mod times;
 
-use cases::all_cases;
-use compare::show;
+use cases::show_cases;
+use drawn::show_drawn;
+use lattices::show_lattices;
 
 fn main(rt: HostRuntime) -> anyhow::Result<()> {
-    for case in all_cases() {
-        show(&rt, case)?;
-    }
-    Ok(())
+    show_cases(&rt)?;
+    show_drawn(&rt)?;
+    show_lattices(&rt)
 }
