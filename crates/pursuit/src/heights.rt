@@ -70,7 +70,8 @@ pub(crate) fn falling_order(
     order: &mut ArrayVec<u16, PURSUIT_FIXES>,
 ) {
     order.clear();
-    for height in (0..=snapshot.n()).rev() {
+    let highest = heights.iter().copied().max().unwrap_or(0);
+    for height in (0..=highest).rev() {
         for fix in 0..snapshot.n() {
             if height_of(heights, fix) == height && !order.is_full() {
                 order.push(fix);

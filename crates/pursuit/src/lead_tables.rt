@@ -31,8 +31,9 @@ fn lead_of(snapshot: &Snapshot, ends: Ends, heights: &[u16], leads: &[u32], a: u
     route_moves(snapshot, ends, leads, a, b)
 }
 
-// Fills the table, for the fixes in an order that begins with the highest. Nothing is promised of it, since it is checked.
-pub(crate) fn fill(
+// Fills in the leads that are marked, for the fixes in an order that begins with the highest. Nothing is promised of them, since
+// they are checked.
+pub(crate) fn fill_leads(
     snapshot: &Snapshot,
     ends: Ends,
     heights: &[u16],
@@ -41,8 +42,10 @@ pub(crate) fn fill(
 ) {
     for a in order {
         for b in order {
-            let lead = lead_of(snapshot, ends, heights, leads, *a, *b);
-            set_lead(leads, *a, *b, lead);
+            if lead_between(leads, snapshot.n(), *a, *b) != 0 {
+                let lead = lead_of(snapshot, ends, heights, leads, *a, *b);
+                set_lead(leads, *a, *b, lead);
+            }
         }
     }
 }

@@ -41,3 +41,10 @@ pub(crate) fn set_lead(leads: &mut [u32], a: u16, b: u16, lead: u32) {
         *place = lead;
     }
 }
+
+// Takes the leads of a chart with so many fixes out of a table.
+pub(crate) fn clear_leads(leads: &mut [u32], fixes: u16) {
+    for row in leads.chunks_mut(PURSUIT_FIXES).take(fixes as usize) {
+        row.fill(0);
+    }
+}

@@ -10,4 +10,5 @@ mod leads;
 mod legs;
 mod moves;
 pub mod pursuits;
+mod reached_pairs;
 mod reaching;

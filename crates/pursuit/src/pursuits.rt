@@ -5,8 +5,9 @@ ghost use Rattle.search.specs.Snapshots.{legs_of};
 ghost use Rattle.pursuit.specs.Leads.{IsPursuit};
 
 use super::heights::{every_leg_rises, falling_order, find_heights};
-use super::lead_tables::{fill, is_each_supported};
-use super::leads::{MAX_LEADS, PURSUIT_FIXES};
+use super::lead_tables::{fill_leads, is_each_supported};
+use super::leads::{MAX_LEADS, PURSUIT_FIXES, clear_leads};
+use super::reached_pairs::mark_reached;
 use arrayvec::ArrayVec;
 use chart::charts::Chart;
 use chart::ends::Ends;
@@ -48,7 +49,9 @@ impl Pursuit {
         }
         falling_order(snapshot, &self.heights, &mut self.order);
         let order = self.order.as_slice();
-        fill(snapshot, ends, &self.heights, order, &mut self.leads);
+        clear_leads(&mut self.leads, snapshot.n());
+        mark_reached(snapshot, ends, &self.heights, order, &mut self.leads);
+        fill_leads(snapshot, ends, &self.heights, order, &mut self.leads);
         is_each_supported(snapshot, ends, &self.heights, &self.leads)
     }
 }

@@ -7,4 +7,4 @@ use Rattle.pursuit.proofs.pursuits.Pursuit.fill.Goals as goal
 
 pub returns : goal.returns
 returns c serves =
-    rw c.n-self.ensures (lead_table_told (trip (legs_of c.args.snapshot.now) c.args.ends.from c.args.ends.to) (height_at c.find_heights.new.heights) _ (fixes_of c.args.snapshot.now) c.fill.new.leads c.if-not-every_leg_rises.ensures (MatchBool-at_true _ _ serves c.is_each_supported.ensures))
+    rw c.n-self.ensures (lead_table_told (trip (legs_of c.args.snapshot.now) c.args.ends.from c.args.ends.to) (height_at c.find_heights.new.heights) _ (fixes_of c.args.snapshot.now) c.fill_leads.new.leads c.if-not-every_leg_rises.ensures (MatchBool-at_true _ _ serves c.is_each_supported.ensures))
