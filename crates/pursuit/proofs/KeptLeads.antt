@@ -54,12 +54,12 @@ module _ {t : Trip} {height : ℕ → ℕ} {offset : ℕ} {lead : ℕ → ℕ �
     -- the rival stands lower, and moves
     rival_turn : (ks : List ℕ) (a b : ℕ) → moves ks b < suc n → Play ks a b → height b < height a → Kept ks a b
     rival_turn ks a b m play lt =
-        let some = (table.supported a b).rival_moves lt play.told in
+        let within = path_rises (IsRouteLeg t) t.legs height route_rises ks a t.to play.path in
+        let some = (table.supported a b).rival_moves lt within play.told in
         let f = some.0 in
         let from : height (at t.legs f).from ≡ height b = ap height some.1 in
         let move = some.2 play.told in
         let rises = table.rises f move.0 in
-        let within = path_rises (IsRouteLeg t) t.legs height route_rises ks a t.to play.path in
         let behind : In f ks → ⊥ = λ i. let l = path_leaves (IsRouteLeg t) t.legs height route_rises ks a t.to play.path f i in omega arith in
         let low = play.off f behind (inl some.1) in
         let rest = deeper ks a (at t.legs f).to (omega (arith, move.1)) (record {

@@ -1,5 +1,5 @@
 -- What rests on the rivals being the routes. `IsRival` is opened here and nowhere else: where rivals come to be more than the
--- routes, this file changes and no other.
+-- routes, this file alone changes of the proofs of this crate.
 use Rattle.std.proofs.Common.{◌≡◌, ℕ, ◌+◌, ◌≤◌, ◌≢◌, List, [], ◌∷◌, refl}
 use Rattle.chart.specs.declared.row.Standing.{Standing}
 use Rattle.chart.specs.declared.row.Standing.TheVariants.{Open, Closed}

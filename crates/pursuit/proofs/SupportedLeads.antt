@@ -15,7 +15,7 @@ module _ (t : Trip) (height : ℕ → ℕ) (offset : ℕ) (lead : ℕ → ℕ �
     both_arrived = λ p q. omega arith;
     rival_past = λ p n l. z;
     route_moves = λ n l k there from one. absurd (omega arith);
-    rival_moves = λ lt one. absurd (omega arith);
+    rival_moves = λ lt within one. absurd (omega arith);
     both_move = λ s k there from one. absurd (omega arith);
   }
 
@@ -25,8 +25,8 @@ module _ (t : Trip) (height : ℕ → ℕ) (offset : ℕ) (lead : ℕ → ℕ �
     both_arrived = λ p q. let h = s.both_arrived p q in omega arith;
     rival_past = λ p n l. let h = s.rival_past p n l in omega arith;
     route_moves = λ n l k there from. route_less t lead b x y k le (s.route_moves n l k there from);
-    rival_moves = λ lt one.
-        let m = s.rival_moves lt (omega arith) in
+    rival_moves = λ lt within one.
+        let m = s.rival_moves lt within (omega arith) in
         (m.0, m.1, λ o. let k = m.2 (omega arith) in (k.0, omega (arith, k.1)));
     both_move = λ p k there from. replies_less t lead a x y k le (s.both_move p k there from);
   }

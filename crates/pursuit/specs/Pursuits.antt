@@ -48,12 +48,12 @@ RepliesTo t lead a x e = 1 ≤ x → IsRouteLeg t e → (f : ℕ) × ((at t.legs
 abbrev pub BothMove : Trip → (ℕ → ℕ → ℕ) → ℕ → ℕ → Type 0
 BothMove t lead a x = (e : ℕ) → e < length t.legs → (at t.legs e).from ≡ a → RepliesTo t lead a x e
 
--- the next move keeps the lead x
+-- the next move keeps the lead x; a route that is higher than the destination has no way on
 pub record IsSupported (t : Trip) (height : ℕ → ℕ) (offset : ℕ) (lead : ℕ → ℕ → ℕ) (a b x : ℕ) : Type 0 where
   pub both_arrived : a ≡ t.to → b ≡ t.to → x ≤ offset
   pub rival_past : a ≡ t.to → a ≢ b → height a ≤ height b → x ≡ 0
   pub route_moves : a ≢ b → height a ≤ height b → RouteMoves t lead a b x
-  pub rival_moves : height b < height a → RivalMoves t lead a b x
+  pub rival_moves : height b < height a → height a ≤ height t.to → RivalMoves t lead a b x
   pub both_move : a ≡ b → BothMove t lead a x
 
 -- every leg leads to a higher fix, but for those that no route and no rival has

@@ -1,6 +1,6 @@
 -- Routes and rivals as paths of legs. A rival is a list of legs against which the regret of a route is measured: today the
--- rivals are the routes. What is said of rivals names `IsRivalLeg` and `IsRival`, so that they may come to be more than the
--- routes: what is not closed serves a rival, and what is open serves a route.
+-- rivals are the routes. What is said of their legs names `IsRivalLeg`, and proofs of them name `IsRival`, so that rivals may come
+-- to be more than the routes: what is not closed serves a rival, and what is open serves a route.
 use Rattle.std.specs.Prelude.{◌≡◌, ℕ, ◌<◌, List, [], ◌∷◌, length, ◌≢◌}
 use Rattle.chart.specs.declared.leg.Leg.{Leg}
 use Rattle.chart.specs.declared.row.Standing.TheVariants.{Open, Closed}

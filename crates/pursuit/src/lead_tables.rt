@@ -6,7 +6,7 @@ ghost use Rattle.pursuit.specs.Pursuits.{IsSupported};
 ghost use Rattle.pursuit.specs.Leads.{height_at, lead_at, IsRowSupported, IsEachSupported};
 
 use super::heights::height_of;
-use super::leads::{OFFSET, lead_between, set_lead};
+use super::leads::{ENDLESS, OFFSET, lead_between, set_lead};
 use super::moves::{both_move, rival_moves, route_moves};
 use chart::charts::Chart;
 use chart::ends::Ends;
@@ -23,6 +23,10 @@ fn lead_of(snapshot: &Snapshot, ends: Ends, heights: &[u16], leads: &[u32], a: u
         return both_move(snapshot, ends, leads, a);
     }
     if height_of(heights, b) < height_of(heights, a) {
+        // A route past the destination has no way on.
+        if height_of(heights, ends.to) < height_of(heights, a) {
+            return ENDLESS;
+        }
         return rival_moves(snapshot, ends, leads, a, b);
     }
     if a == ends.to {

@@ -2,17 +2,23 @@
 ghost use Rattle.std.specs.Prelude.{◌≡◌};
 ghost use Rattle.pursuit.specs.Leads.{lead_at};
 
+use chart::limits::MAX_SECONDS;
+
 // How many fixes a table has room for. A chart of more fixes has no pursuit.
 pub(crate) const PURSUIT_FIXES: usize = 200;
 
 // A place for each two fixes.
 pub(crate) const MAX_LEADS: usize = PURSUIT_FIXES * PURSUIT_FIXES;
 
-// The lead of 0 seconds. It is more than any route takes, so that a lead below zero is a number too.
-pub(crate) const OFFSET: u32 = 1 << 25;
+// No list of legs that fit a table takes longer: it has fewer legs than there are fixes.
+const LONGEST: u32 = MAX_SECONDS * PURSUIT_FIXES as u32;
 
-// The lead where the route has no way on: no route of a chart takes so long that a lower lead could be mistaken for it.
-pub(crate) const ENDLESS: u32 = 1 << 28;
+// The lead of 0 seconds. It is more than any rival takes, so that a lead below zero is a number too.
+pub(crate) const OFFSET: u32 = LONGEST + 1;
+
+// The lead where the route has no way on. Less the offset and the time of one rival it is still more than any regret, so that a
+// chain without a route is dropped.
+pub(crate) const ENDLESS: u32 = OFFSET + 4 * LONGEST;
 
 // The lead of the route at `a` and the rival at `b`, in the table of a chart with so many fixes; none past them.
 #[tactic(auto, using(crate::proofs::ReadLegs::lead_there, crate::proofs::ReadLegs::lead_past_route, crate::proofs::ReadLegs::lead_past_rival))]

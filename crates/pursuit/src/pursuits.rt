@@ -35,7 +35,8 @@ impl Pursuit {
     }
 
     /// Fills the pursuit for a chart between two ends, and says whether it serves them. It does not where for no heights every
-    /// leg leads to a higher fix, nor where the chart has more fixes than there is room for; nothing is then known of it.
+    /// leg leads to a higher fix, nor where the chart has more fixes than there is room for; nothing is then known of it. That it serves all
+    /// others is tested, and not promised.
     pub fn fill(&mut self, snapshot: &Snapshot, ends: Ends) -> bool
         ensures { IsTrue result → IsPursuit (trip (legs_of snapshot.now) ends.from ends.to) self.new }
     {

@@ -5,10 +5,10 @@ ghost use Rattle.search.specs.Snapshots.{legs_of};
 ghost use Rattle.pursuit.specs.Leads.{height_at, own_high, AreReached};
 
 use super::heights::height_of;
+use super::leads::PURSUIT_FIXES;
 use super::legs::rival_leg;
 use chart::choices::Choice;
 use chart::ends::Ends;
-use chart::limits::MAX_FIXES;
 use regret::marked::Marked;
 use search::snapshot::Snapshot;
 
@@ -51,6 +51,7 @@ fn take_leg(
     let Some(so_far) = time_at(times, leg.from) else {
         return;
     };
+    // No sum is too large, since paths that rise are short; the sum is tested, which is simpler than to prove it.
     let Some(time) = so_far.checked_add(Marked { marks }.time(k, &leg)) else {
         return;
     };
@@ -86,10 +87,10 @@ pub(crate) fn reach(
     order: &[u16],
     marks: &[bool],
     below: u16,
-) -> [Option<u32>; MAX_FIXES]
+) -> [Option<u32>; PURSUIT_FIXES]
     ensures { AreReached (trip (legs_of snapshot.now) ends.from ends.to) (height_at heights.now) (own_high (legs_of snapshot.now) marks.now) below result }
 {
-    let mut times = [None; MAX_FIXES];
+    let mut times = [None; PURSUIT_FIXES];
     set_time(&mut times, ends.from, 0);
     for u in order.iter().rev() {
         if height_of(heights, *u) >= below {
