@@ -27,7 +27,12 @@ impl Chain {
         !self.legs.is_empty() && self.end == fix
     }
 
-    fn meets(&self, fix: u16) -> bool {
+    // The fix where it ends.
+    pub fn end(&self) -> u16 {
+        self.end
+    }
+
+    pub fn meets(&self, fix: u16) -> bool {
         self.end == fix || self.before.contains(&fix)
     }
 

@@ -345,10 +345,10 @@ impl Case {
         let name = self.name;
         let rows = self.rows(rt.alloc())?;
         let table = Table::of(self.fixes, &rows).context(name)?;
-        let listing = compare(rt.alloc(), &table, self.ends, &rows).context(name)?;
+        let (listing, bounded) = compare(rt.alloc(), &table, self.ends, &rows).context(name)?;
         let all = listing.chains().len();
         let flown = listing.routes().len();
-        println!(rt; "{name}: {all} chains, {flown} routes, as listed")?;
+        println!(rt; "{name}: {all} chains, {flown} routes, as listed; {bounded} bounded")?;
         Ok(())
     }
 }

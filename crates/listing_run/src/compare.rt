@@ -1,4 +1,5 @@
 // What the calls answer on a small chart between two ends, beside the listing.
+use super::bounds::count_bounds;
 use anyhow::{Context, ensure};
 use chart::charts::Chart;
 use chart::ends::Ends;
@@ -99,13 +100,14 @@ fn ways_agree(all: &Listing, worst: &Listing) -> bool {
         .all(|route| all.regret(route) == worst.regret(route))
 }
 
-// The listing of a chart with these legs between two ends, with which the calls agree.
+// The listing of a chart with these legs between two ends, with which the calls agree, and how many of its chains have a pursuit
+// bound.
 pub fn compare<C: Chart>(
     heap: Global,
     chart: &C,
     ends: Ends,
     rows: &[Row],
-) -> anyhow::Result<Listing> {
+) -> anyhow::Result<(Listing, usize)> {
     let listing = Listing::at_worst(heap, rows, ends)?;
     if rows.len() <= FEW {
         let all = Listing::of(heap, rows, ends)?;
@@ -116,5 +118,6 @@ pub fn compare<C: Chart>(
     ensure!(regrets == 0, "{regrets} regrets differ");
     ensure!(floors == 0, "{floors} floors differ");
     ensure!(routes_agree(chart, ends, &listing), "the route differs");
-    Ok(listing)
+    let bounded = count_bounds(heap, chart, ends, rows, &listing)?;
+    Ok((listing, bounded))
 }

@@ -1,6 +1,7 @@
 // Compares regrets, floors and routes of least regret with a separate listing of all routes, on small charts.
 #![tactic(auto)]
 
+mod bounds;
 mod cases;
 mod compare;
 mod drawn;

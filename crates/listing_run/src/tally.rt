@@ -7,12 +7,14 @@ use chart::row::Row;
 use std::alloc::Global;
 use std::fmt;
 
-// How many charts there were, and how many ends with a route and without.
+// How many charts there were, and how many ends with a route and without, and how many chains with a
+// pursuit bound.
 #[derive(Clone, Copy)]
 pub struct Tally {
     charts: usize,
     routes: usize,
     none: usize,
+    bounded: usize,
 }
 
 impl Tally {
@@ -21,6 +23,7 @@ impl Tally {
             charts: 0,
             routes: 0,
             none: 0,
+            bounded: 0,
         }
     }
 
@@ -42,10 +45,11 @@ impl Tally {
     ) -> anyhow::Result<()> {
         for from in 0..chart.n() {
             for to in 0..chart.n() {
-                let listing = compare(heap, chart, Ends { from, to }, rows).context(format_args!(
-                    "{from} to {to} on {rows:?}"
-                ))?;
+                let (listing, bounded) = compare(heap, chart, Ends { from, to }, rows).context(
+                    format_args!("{from} to {to} on {rows:?}"),
+                )?;
                 self.count(!listing.routes().is_empty());
+                self.bounded = self.bounded.saturating_add(bounded);
             }
         }
         self.charts = self.charts.saturating_add(1);
@@ -58,9 +62,10 @@ impl fmt::Display for Tally {
         let charts = self.charts;
         let routes = self.routes;
         let none = self.none;
+        let bounded = self.bounded;
         write!(
             f,
-            "{charts} charts, {routes} ends with a route, {none} without"
+            "{charts} charts, {routes} ends with a route, {none} without, {bounded} chains bounded"
         )
     }
 }
