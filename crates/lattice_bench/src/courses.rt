@@ -1,5 +1,5 @@
 // Between which two fixes of a lattice a route is wanted.
-use chart::ends::Ends;
+use chart::Ends;
 use std::fmt;
 
 // From the middle of the first column to the middle of the last, or from the first fix to the last.

@@ -1,7 +1,6 @@
 // Lattices that are drawn, the same on every run.
 use super::kinds::{Kind, Spread};
-use chart::lattice::Lattice;
-use chart::step::{Interval, Step};
+use chart::{Interval, Lattice, Step};
 use std::alloc::Global;
 
 // The top level of every leg.
@@ -9,11 +8,11 @@ const TOP: u16 = 390;
 
 // Numbers without pattern.
 #[derive(Drop)]
-struct Numbers {
+struct RandomNumbers {
     last: u32,
 }
 
-impl Numbers {
+impl RandomNumbers {
     // The next number.
     fn draw(&mut self) -> u16 {
         self.last = self
@@ -53,16 +52,16 @@ impl Numbers {
 
 // A lattice of so many rows and columns, with times of a kind.
 pub(crate) fn drawn_lattice(
-    heap: Global,
+    alloc: Global,
     rows: u16,
     columns: u16,
     kind: Kind,
 ) -> anyhow::Result<Lattice> {
-    let mut numbers = Numbers {
+    let mut numbers = RandomNumbers {
         last: u32::from(rows) * u32::from(columns),
     };
     let spread = kind.spread();
-    let mut steps = Vec::new(heap);
+    let mut steps = Vec::new(alloc);
     for _ in 1..columns {
         steps.push(numbers.step(&spread))?;
     }

@@ -21,11 +21,11 @@ const COURSES: [Course; 2] = [Course::Middle, Course::Corner];
 
 // Answers the lattices of one size.
 fn show_size(rt: &HostRuntime, rows: u16, columns: u16) -> anyhow::Result<()> {
-    let heap = rt.alloc();
+    let alloc = rt.alloc();
     for kind in KINDS {
-        let lattice = drawn_lattice(heap, rows, columns, kind)?;
+        let lattice = drawn_lattice(alloc, rows, columns, kind)?;
         for course in COURSES {
-            let name = format!(in heap; "{rows} {columns} {kind} {course}")?;
+            let name = format!(in alloc; "{rows} {columns} {kind} {course}")?;
             show(rt, name.as_str(), &lattice, course.ends(rows, columns))?;
         }
     }

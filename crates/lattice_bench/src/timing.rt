@@ -1,10 +1,8 @@
 // A route that is answered several times, and the least time that it took the processor: other work on the machine does not
 // count.
-use chart::ends::Ends;
-use chart::lattice::Lattice;
 use chart::limits::MAX_FIXES;
-use least::found::Found;
-use least::routes::least_regret;
+use chart::{Ends, Lattice};
+use least::{FoundRoute, least_regret};
 use std::io;
 use std::time::{CpuClock, Duration};
 
@@ -34,7 +32,7 @@ pub(crate) fn show(
     ends: Ends,
 ) -> anyhow::Result<()> {
     let mut memory = [0; MAX_ROUTE];
-    let Found { legs, regret } = least_regret(lattice, ends, &mut memory)?;
+    let FoundRoute { legs, regret } = least_regret(lattice, ends, &mut memory)?;
     print!(rt; "{name} regret {regret} legs")?;
     for leg in memory.iter().take(legs as usize) {
         print!(rt; " {leg}")?;

@@ -1,14 +1,14 @@
 -- From two places where the table tells a lead, a rival keeps it on whatever way the route goes on.
 use Rattle.std.proofs.Common.{◌≡◌, ℕ, zero, suc, ◌+◌, ◌-◌, ◌<◌, ◌≤◌, cond, ◌⊎◌, ◌≢◌, List, [], ◌∷◌, length, sym, refl, ap, ◌∙◌, subst, inl, inr, ⊎_elim, arith, eq-eqb, ne_eqb}
 use Rattle.std.proofs.lemmas.Bool.{cases_eq, cases_lt}
-use Rattle.chart.specs.Legs.{at}
-use Rattle.chart.specs.Routes.{In}
-use Rattle.chart.specs.Regret.{Trip, time}
-use Rattle.pursuit.specs.Rivals.{IsRouteLeg, IsRivalLeg, Path}
+use Rattle.chart.specs.Legs.{leg_at}
+use Rattle.chart.specs.Routes.{IsIn}
+use Rattle.chart.specs.Regret.{Query, time}
+use Rattle.pursuit.specs.Rivals.{IsRouteLeg, IsRivalLeg, IsPath}
 use Rattle.pursuit.specs.Pursuits.{IsLeadTable, reply_time}
 use Rattle.pursuit.proofs.Paths.{path_rises, path_leaves, route_leg_is_rival_leg}
 
-module _ {t : Trip} {height : ℕ → ℕ} {offset : ℕ} {lead : ℕ → ℕ → ℕ} (table : IsLeadTable t height offset lead) (w : ℕ → ℕ) where
+module _ {t : Query} {height : ℕ → ℕ} {offset : ℕ} {lead : ℕ → ℕ → ℕ} (table : IsLeadTable t height offset lead) (w : ℕ → ℕ) where
   -- the rival, which is at b, may come to leave the fix v
   abbrev pub StillTo : ℕ → ℕ → Type 0
   StillTo b v = (v ≡ b) ⊎ (height b < height v)
@@ -16,26 +16,26 @@ module _ {t : Trip} {height : ℕ → ℕ} {offset : ℕ} {lead : ℕ → ℕ �
   -- The route is at a and goes on by ks, the rival is at b, and the table tells their lead. In the choice w the legs ks take
   -- their high time, and of the others those that the rival may come to fly their low time.
   pub record Play (ks : List ℕ) (a b : ℕ) : Type 0 where
-    pub path : Path (IsRouteLeg t) t.legs a ks t.to
-    pub on : (k : ℕ) → In k ks → w k ≡ (at t.legs k).high
-    pub off : (k : ℕ) → (In k ks → ⊥) → StillTo b (at t.legs k).from → w k ≡ (at t.legs k).low
+    pub path : IsPath (IsRouteLeg t) t.legs a ks t.destination
+    pub on : (k : ℕ) → IsIn k ks → w k ≡ (leg_at t.legs k).high
+    pub off : (k : ℕ) → (IsIn k ks → ⊥) → StillTo b (leg_at t.legs k).from → w k ≡ (leg_at t.legs k).low
     pub told : 1 ≤ lead a b
 
   -- a rival goes on to the destination, and keeps the lead
   pub record Kept (ks : List ℕ) (a b : ℕ) : Type 0 where
     pub by : List ℕ
-    pub path : Path (IsRivalLeg t) t.legs b by t.to
+    pub path : IsPath (IsRivalLeg t) t.legs b by t.destination
     pub keeps : lead a b + time w by ≤ time w ks + offset
 
   -- how many moves there may be
   abbrev moves : List ℕ → ℕ → ℕ
-  moves ks b = length ks + (height t.to + 1 - height b)
+  moves ks b = length ks + (height t.destination + 1 - height b)
 
   -- in fewer than n moves a rival comes to the destination and keeps the lead
   abbrev KeptIn : ℕ → Type 0
   KeptIn n = (ks : List ℕ) (a b : ℕ) → moves ks b < n → Play ks a b → Kept ks a b
 
-  route_rises : (k : ℕ) → IsRouteLeg t k → height (at t.legs k).from < height (at t.legs k).to
+  route_rises : (k : ℕ) → IsRouteLeg t k → height (leg_at t.legs k).from < height (leg_at t.legs k).to
   route_rises k l = table.rises k (route_leg_is_rival_leg t k l)
 
   -- once the rival has moved on from b to c, what it may come to leave is higher than b
@@ -43,29 +43,29 @@ module _ {t : Trip} {height : ℕ → ℕ} {offset : ℕ} {lead : ℕ → ℕ �
   still_higher b c v up s = ⊎_elim (λ e. subst (λ y. height b < height y) (sym e) up) (λ h. omega arith) s
 
   -- where both leave one fix, how long the rival's leg takes
-  reply_taken : (e f : ℕ) → (f ≡ e → w f ≡ (at t.legs f).high) → ((f ≡ e → ⊥) → w f ≡ (at t.legs f).low) → w f ≡ reply_time t.legs e f
+  reply_taken : (e f : ℕ) → (f ≡ e → w f ≡ (leg_at t.legs f).high) → ((f ≡ e → ⊥) → w f ≡ (leg_at t.legs f).low) → w f ≡ reply_time t.legs e f
   reply_taken e f same other =
       ⊎_elim
-      (λ s. same s ∙ sym (ap (λ b. cond b (at t.legs f).high (at t.legs f).low) (eq-eqb f e s)))
-      (λ n. other n ∙ sym (ap (λ b. cond b (at t.legs f).high (at t.legs f).low) (ne_eqb f e n)))
+      (λ s. same s ∙ sym (ap (λ b. cond b (leg_at t.legs f).high (leg_at t.legs f).low) (eq-eqb f e s)))
+      (λ n. other n ∙ sym (ap (λ b. cond b (leg_at t.legs f).high (leg_at t.legs f).low) (ne_eqb f e n)))
       (cases_eq f e)
 
   module _ (n : ℕ) (deeper : KeptIn n) where
     -- the rival stands lower, and moves
     rival_turn : (ks : List ℕ) (a b : ℕ) → moves ks b < suc n → Play ks a b → height b < height a → Kept ks a b
     rival_turn ks a b m play lt =
-        let within = path_rises (IsRouteLeg t) t.legs height route_rises ks a t.to play.path in
+        let within = path_rises (IsRouteLeg t) t.legs height route_rises ks a t.destination play.path in
         let some = (table.supported a b).rival_moves lt within play.told in
         let f = some.0 in
-        let from : height (at t.legs f).from ≡ height b = ap height some.1 in
+        let from : height (leg_at t.legs f).from ≡ height b = ap height some.1 in
         let move = some.2 play.told in
         let rises = table.rises f move.0 in
-        let behind : In f ks → ⊥ = λ i. let l = path_leaves (IsRouteLeg t) t.legs height route_rises ks a t.to play.path f i in omega arith in
+        let behind : IsIn f ks → ⊥ = λ i. let l = path_leaves (IsRouteLeg t) t.legs height route_rises ks a t.destination play.path f i in omega arith in
         let low = play.off f behind (inl some.1) in
-        let rest = deeper ks a (at t.legs f).to (omega (arith, move.1)) (record {
+        let rest = deeper ks a (leg_at t.legs f).to (omega (arith, move.1)) (record {
           path = play.path;
           on = play.on;
-          off = λ k n s. play.off k n (inr (still_higher b (at t.legs f).to (at t.legs k).from (omega arith) s));
+          off = λ k n s. play.off k n (inr (still_higher b (leg_at t.legs f).to (leg_at t.legs k).from (omega arith) s));
           told = let one = play.told in omega (arith, move.1);
         }) in
         record {
@@ -85,11 +85,11 @@ module _ {t : Trip} {height : ℕ → ℕ} {offset : ℕ} {lead : ℕ → ℕ �
         let from = play.path.1 in
         let move = (table.supported a b).route_moves ne le e leg.there from play.told leg in
         let high = play.on e (inl refl) in
-        let level : height (at t.legs e).from ≡ height a = ap height from in
-        let gone : (k : ℕ) → StillTo b (at t.legs k).from → k ≡ e → ⊥ = λ k s same.
-        let there : (at t.legs k).from ≡ a = ap (λ y. (at t.legs y).from) same ∙ from in
-        ⊎_elim (λ c. ne (sym there ∙ c)) (λ h. let l : height (at t.legs k).from ≡ height a = ap height there in omega arith) s in
-        let rest = deeper ks (at t.legs e).to b (omega arith) (record {
+        let level : height (leg_at t.legs e).from ≡ height a = ap height from in
+        let gone : (k : ℕ) → StillTo b (leg_at t.legs k).from → k ≡ e → ⊥ = λ k s same.
+        let there : (leg_at t.legs k).from ≡ a = ap (λ y. (leg_at t.legs y).from) same ∙ from in
+        ⊎_elim (λ c. ne (sym there ∙ c)) (λ h. let l : height (leg_at t.legs k).from ≡ height a = ap height there in omega arith) s in
+        let rest = deeper ks (leg_at t.legs e).to b (omega arith) (record {
           path = play.path.2;
           on = λ k i. play.on k (inr i);
           off = λ k n s. play.off k (⊎_elim (gone k s) n) s;
@@ -106,19 +106,19 @@ module _ {t : Trip} {height : ℕ → ℕ} {offset : ℕ} {lead : ℕ → ℕ �
         let some = (table.supported a a).both_move refl e leg.there play.path.1 play.told leg in
         let f = some.0 in
         let move = some.2 play.told in
-        let from : height (at t.legs f).from ≡ height a = ap height some.1 in
-        let from' : height (at t.legs e).from ≡ height a = ap height play.path.1 in
+        let from : height (leg_at t.legs f).from ≡ height a = ap height some.1 in
+        let from' : height (leg_at t.legs e).from ≡ height a = ap height play.path.1 in
         let up = table.rises f move.0 in
         let up' = route_rises e leg in
         let high = play.on e (inl refl) in
-        let ahead : In f ks → ⊥ = λ i. let l = path_leaves (IsRouteLeg t) t.legs height route_rises ks (at t.legs e).to t.to play.path.2 f i in omega arith in
+        let ahead : IsIn f ks → ⊥ = λ i. let l = path_leaves (IsRouteLeg t) t.legs height route_rises ks (leg_at t.legs e).to t.destination play.path.2 f i in omega arith in
         let takes : w f ≡ reply_time t.legs e f = reply_taken e f (λ s. play.on f (inl s)) (λ s. play.off f (⊎_elim s ahead) (inl some.1)) in
-        let rest = deeper ks (at t.legs e).to (at t.legs f).to (omega arith) (record {
+        let rest = deeper ks (leg_at t.legs e).to (leg_at t.legs f).to (omega arith) (record {
           path = play.path.2;
           on = λ k i. play.on k (inr i);
           off = λ k n s.
-              let h : height a < height (at t.legs k).from = still_higher a (at t.legs f).to (at t.legs k).from (omega arith) s in
-              play.off k (⊎_elim (λ (same : k ≡ e). let l = ap (λ y. height (at t.legs y).from) same in omega arith) n) (inr h);
+              let h : height a < height (leg_at t.legs k).from = still_higher a (leg_at t.legs f).to (leg_at t.legs k).from (omega arith) s in
+              play.off k (⊎_elim (λ (same : k ≡ e). let l = ap (λ y. height (leg_at t.legs y).from) same in omega arith) n) (inr h);
           told = move.1;
         }) in
         record {

@@ -3,11 +3,11 @@ use Rattle.std.proofs.Common.{◌≡◌, ℕ, ◌+◌, ◌*◌, ◌<◌, ◌≤�
 use Rattle.std.proofs.lemmas.Bool.{lt-ltb, le-ltb}
 use Rattle.std.proofs.Math.Dec.{ltb}
 use Rattle.chart.specs.declared.leg.Leg.{Leg}
-use Rattle.chart.specs.Legs.{numbered}
+use Rattle.chart.specs.Legs.{leg_get}
 use Rattle.pursuit.specs.declared.leads.TheConstants.{PURSUIT_FIXES}
-use Rattle.chart.specs.Regret.{Trip}
-use Rattle.chart.proofs.Numbers.{numbered_some, numbered_not}
-use Rattle.pursuit.specs.Leads.{lead_at, LegRead}
+use Rattle.chart.specs.Regret.{Query}
+use Rattle.chart.proofs.LegsByNumber.{leg_get_some, leg_get_not_none}
+use Rattle.pursuit.specs.internal.Leads.{lead_at, LegRead}
 
 module _ (fixes : ℕ) (leads : List ℕ) (a b : ℕ) where
   pub lead_there : a < fixes → b < fixes → get_or leads (PURSUIT_FIXES * a + b) 0 ≡ lead_at fixes leads a b
@@ -27,13 +27,13 @@ module _ (fixes : ℕ) (leads : List ℕ) (a b : ℕ) where
       sym (x ∙ ap (λ r. cond r (get_or leads (PURSUIT_FIXES * a + b) 0) 0) (le-ltb b fixes q))
 
 -- a leg that was read, and tested for whether it serves
-module _ (S : ℕ → ℕ → Leg → Type 0) (t : Trip) (k : ℕ) where
-  pub no_leg_read : None ≡ numbered t.legs k → LegRead S t k None
-  no_leg_read e l = numbered_not t.legs k l.there (sym e)
+module _ (S : ℕ → ℕ → Leg → Type 0) (t : Query) (k : ℕ) where
+  pub no_leg_read : None ≡ leg_get t.legs k → LegRead S t k None
+  no_leg_read e l = leg_get_not_none t.legs k l.there (sym e)
 
-  module _ (leg : Leg) (is : Some leg ≡ numbered t.legs k) where
-    pub leg_serves : S t.from t.to leg → LegRead S t k (Some leg)
-    leg_serves s = let r = numbered_some t.legs k leg is in (r.1, record { there = r.0; serves = subst (λ l. S t.from t.to l) r.1 s })
+  module _ (leg : Leg) (is : Some leg ≡ leg_get t.legs k) where
+    pub leg_serves : S t.source t.destination leg → LegRead S t k (Some leg)
+    leg_serves s = let r = leg_get_some t.legs k leg is in (r.1, record { there = r.0; serves = subst (λ l. S t.source t.destination l) r.1 s })
 
-    pub leg_not_served : (S t.from t.to leg → ⊥) → LegRead S t k None
-    leg_not_served n l = let r = numbered_some t.legs k leg is in n (subst (λ l. S t.from t.to l) (sym r.1) l.serves)
+    pub leg_not_served : (S t.source t.destination leg → ⊥) → LegRead S t k None
+    leg_not_served n l = let r = leg_get_some t.legs k leg is in n (subst (λ l. S t.source t.destination l) (sym r.1) l.serves)

@@ -1,14 +1,14 @@
 -- Leads that the next move keeps: none, smaller ones, and all of a table.
-use Rattle.std.proofs.Common.{◌≡◌, ℕ, ◌<◌, ◌≤◌, Bool, true, false, MatchBool, List, sym, refl, ⊎_elim, arith}
+use Rattle.std.proofs.Common.{◌≡◌, ℕ, ◌<◌, ◌≤◌, true, List, sym, ⊎_elim, arith}
 use Rattle.std.proofs.Math.Dec.{leb}
 use Rattle.std.proofs.lemmas.Bool.{cases_lt, leb-true}
-use Rattle.chart.specs.Regret.{Trip}
+use Rattle.chart.specs.Regret.{Query}
 use Rattle.pursuit.specs.Pursuits.{IsSupported, EveryLegRises, IsLeadTable}
-use Rattle.pursuit.specs.Leads.{lead_at, IsEachSupported}
+use Rattle.pursuit.specs.internal.Leads.{lead_at, IsEachSupported}
 use Rattle.pursuit.proofs.ReadLegs.{lead_past_route, lead_past_rival}
 use Rattle.pursuit.proofs.LegLoops.{route_less, replies_less}
 
-module _ (t : Trip) (height : ℕ → ℕ) (offset : ℕ) (lead : ℕ → ℕ → ℕ) (a b : ℕ) where
+module _ (t : Query) (height : ℕ → ℕ) (offset : ℕ) (lead : ℕ → ℕ → ℕ) (a b : ℕ) where
   -- a lead of 0 needs no support
   pub none_supports : (x : ℕ) → x ≡ 0 → IsSupported t height offset lead a b x
   none_supports x z = record {
@@ -32,15 +32,11 @@ module _ (t : Trip) (height : ℕ → ℕ) (offset : ℕ) (lead : ℕ → ℕ �
   }
 
   -- what a test by ≤ tells of the lead in the table
-  pub told_supported : (x y : ℕ) → x ≡ lead a b → IsSupported t height offset lead a b y → MatchBool (leb x y) (IsSupported t height offset lead a b (lead a b)) (Unit {0})
-  told_supported x y e s = by_test (leb x y) refl
-    where
-      by_test : (r : Bool) → leb x y ≡ r → MatchBool r (IsSupported t height offset lead a b (lead a b)) (Unit {0})
-      by_test true le = less_supports y (lead a b) (let l = leb-true x y le in omega arith) s
-      by_test false le = tt
+  pub told_supported : (x y : ℕ) → x ≡ lead a b → IsSupported t height offset lead a b y → leb x y ≡ true → IsSupported t height offset lead a b (lead a b)
+  told_supported x y e s le = less_supports y (lead a b) (let l = leb-true x y le in omega arith) s
 
 -- a table in a list, whose rows and columns past the end say nothing
-module _ (t : Trip) (height : ℕ → ℕ) (offset fixes : ℕ) (leads : List ℕ) where
+module _ (t : Query) (height : ℕ → ℕ) (offset fixes : ℕ) (leads : List ℕ) where
   pub lead_table_told : EveryLegRises t height → IsEachSupported fixes t height offset (lead_at fixes leads) → IsLeadTable t height offset (lead_at fixes leads)
   lead_table_told rises each = record {
     rises = rises;

@@ -1,3 +1,3 @@
 pub mod Rivals
 pub mod Pursuits
-pub mod Leads
+pub mod internal

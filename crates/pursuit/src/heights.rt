@@ -1,16 +1,13 @@
 // A height for each fix, so that every leg leads to a higher fix.
-ghost use Rattle.std.specs.Prelude.{◌≡◌, MatchBool};
-ghost use Rattle.chart.specs.Regret.{trip};
-ghost use Rattle.search.specs.Snapshots.{legs_of};
+ghost use Rattle.std.specs.Prelude.{◌≡◌, ◌↔◌, IsTrue};
 ghost use Rattle.pursuit.specs.Pursuits.{EveryLegRises};
-ghost use Rattle.pursuit.specs.Leads.{height_at};
+ghost use Rattle.pursuit.specs.internal.Leads.{height_at, query_on};
 
 use super::leads::PURSUIT_FIXES;
 use super::legs::rival_leg;
 use arrayvec::ArrayVec;
-use chart::charts::Chart;
-use chart::ends::Ends;
-use search::snapshot::Snapshot;
+use chart::{Chart, Ends};
+use search::Snapshot;
 
 // The height of a fix.
 pub(crate) fn height_of(heights: &[u16], fix: u16) -> u16
@@ -51,7 +48,7 @@ pub(crate) fn find_heights(snapshot: &Snapshot, ends: Ends, heights: &mut [u16])
 
 // Whether every leg leads to a higher fix.
 pub(crate) fn every_leg_rises(snapshot: &Snapshot, ends: Ends, heights: &[u16]) -> bool
-    ensures { MatchBool result (EveryLegRises (trip (legs_of snapshot.now) ends.from ends.to) (height_at heights.now)) (EveryLegRises (trip (legs_of snapshot.now) ends.from ends.to) (height_at heights.now) → ⊥) }
+    ensures { IsTrue result ↔ EveryLegRises (query_on snapshot.now ends) (height_at heights.now) }
 {
     for k in 0..snapshot.m() {
         if let Some(leg) = rival_leg(snapshot, ends, k)

@@ -1,6 +1,6 @@
 // A table of leads: for each two places of route and rival one.
 ghost use Rattle.std.specs.Prelude.{◌≡◌};
-ghost use Rattle.pursuit.specs.Leads.{lead_at};
+ghost use Rattle.pursuit.specs.internal.Leads.{lead_at};
 
 use chart::limits::MAX_SECONDS;
 

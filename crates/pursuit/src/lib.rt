@@ -2,13 +2,14 @@
 // leads to a higher fix, for some heights.
 #![tactic(auto)]
 
-pub mod bounds;
-pub mod chains;
+mod bounds;
 mod heights;
-mod lead_tables;
+mod lead_table;
 mod leads;
 mod legs;
-mod moves;
-pub mod pursuits;
+mod pursuit;
 mod reached_pairs;
 mod reaching;
+
+pub use bounds::{ChainState, bound};
+pub use pursuit::Pursuit;

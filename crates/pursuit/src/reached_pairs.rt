@@ -2,15 +2,14 @@
 use super::heights::height_of;
 use super::leads::{lead_between, set_lead};
 use super::legs::{rival_leg, route_leg};
-use chart::charts::Chart;
-use chart::ends::Ends;
-use search::snapshot::Snapshot;
+use chart::{Chart, Ends};
+use search::Snapshot;
 
-// The lead that marks a pair until its own lead is known.
+// The lead that flags a pair until its own lead is known.
 const REACHED: u32 = 1;
 
-// Marks the pairs where both leave the fix `a`, the route by the leg `e`.
-fn mark_replies(snapshot: &Snapshot, ends: Ends, leads: &mut [u32], a: u16, e: u16) {
+// Flags the pairs where both leave the fix `a`, the route by the leg `e`.
+fn flag_replies(snapshot: &Snapshot, ends: Ends, leads: &mut [u32], a: u16, e: u16) {
     let Some(leg) = route_leg(snapshot, ends, e) else {
         return;
     };
@@ -21,11 +20,11 @@ fn mark_replies(snapshot: &Snapshot, ends: Ends, leads: &mut [u32], a: u16, e: u
     }
 }
 
-// Marks the pairs to which the next move leads, the route being at `a` and the rival at `b`.
-fn mark_next(snapshot: &Snapshot, ends: Ends, heights: &[u16], leads: &mut [u32], a: u16, b: u16) {
+// Flags the pairs to which the next move leads, the route being at `a` and the rival at `b`.
+fn flag_next(snapshot: &Snapshot, ends: Ends, heights: &[u16], leads: &mut [u32], a: u16, b: u16) {
     if a == b {
         for e in snapshot.legs_from(a) {
-            mark_replies(snapshot, ends, leads, a, e);
+            flag_replies(snapshot, ends, leads, a, e);
         }
     } else if height_of(heights, b) < height_of(heights, a) {
         for f in snapshot.legs_from(b) {
@@ -42,9 +41,9 @@ fn mark_next(snapshot: &Snapshot, ends: Ends, heights: &[u16], leads: &mut [u32]
     }
 }
 
-// Marks each pair that route and rival come to from the departure, in a table without leads. The order of fixes begins with the
+// Flags each pair that route and rival come to from the departure, in a table without leads. The order of fixes begins with the
 // highest. Nothing is promised of it: a lead that is not found says nothing, and so is sound.
-pub(crate) fn mark_reached(
+pub(crate) fn flag_reached(
     snapshot: &Snapshot,
     ends: Ends,
     heights: &[u16],
@@ -55,7 +54,7 @@ pub(crate) fn mark_reached(
     for a in order.iter().rev() {
         for b in order.iter().rev() {
             if lead_between(leads, snapshot.n(), *a, *b) != 0 {
-                mark_next(snapshot, ends, heights, leads, *a, *b);
+                flag_next(snapshot, ends, heights, leads, *a, *b);
             }
         }
     }
