@@ -2,14 +2,8 @@
 // answers go to standard output, times to standard error.
 #![tactic(auto)]
 
-use chart::charts::Chart;
-use chart::ends::Ends;
-use chart::kinds::Quickest;
-use chart::lattice::Lattice;
-use chart::row::{Row, Standing};
-use chart::step::{Interval, Step};
-use chart::table::Table;
-use search::best::best;
+use chart::{Chart, Ends, Interval, Lattice, Quickest, Row, Standing, Step, Table};
+use search::best;
 use std::io;
 use std::time::Instant;
 
@@ -17,11 +11,11 @@ const CALLS: u16 = 2000;
 
 // Numbers without pattern, the same on every run.
 #[derive(Drop)]
-struct Numbers {
+struct RandomNumbers {
     last: u32,
 }
 
-impl Numbers {
+impl RandomNumbers {
     // The next number, of 16 bits.
     fn draw(&mut self) -> u32 {
         self.last = self.last.wrapping_mul(1664525).wrapping_add(1013904223);
@@ -37,7 +31,7 @@ impl Numbers {
 }
 
 fn fill_steps(steps: &mut [Step]) {
-    let mut numbers = Numbers { last: 7 };
+    let mut numbers = RandomNumbers { last: 7 };
     for step in steps.iter_mut() {
         let back = numbers.interval();
         let ahead = numbers.interval();
@@ -49,7 +43,7 @@ fn fill_steps(steps: &mut [Step]) {
 }
 
 fn fill_rows(rows: &mut [Row]) {
-    let mut numbers = Numbers { last: 11 };
+    let mut numbers = RandomNumbers { last: 11 };
     for row in rows.iter_mut() {
         let from = numbers.draw() % 200;
         let to = (from + 1 + numbers.draw() % 199) % 200;
@@ -75,8 +69,8 @@ fn sum_of_bests<C: Chart>(chart: &C) -> u64 {
                 to: 199,
             },
         ))
-        .fold(0u64, |sum, flown| {
-            sum.saturating_add(u64::from(flown.seconds) + u64::from(flown.legs))
+        .fold(0u64, |sum, total| {
+            sum.saturating_add(u64::from(total.seconds) + u64::from(total.legs))
         })
 }
 

@@ -1,7 +1,7 @@
-pub mod Numbers
+pub mod LegsByNumber
 pub mod Chains
-pub mod Within
-pub mod Short
-pub mod Sums
-pub mod RowLegs
-pub mod Grids
+pub mod RouteEnds
+pub mod ShortRoutes
+pub mod SmallTotals
+pub mod LegsOfRows
+pub mod LatticeLegs

@@ -4,8 +4,8 @@ use Rattle.std.specs.Prelude.{◌≡◌, ℕ, ◌+◌, ◌-◌, ◌*◌, ◌/◌
 use Rattle.std.specs.List.{range_with_len}
 use Rattle.chart.specs.declared.row.Row.{Row}
 use Rattle.chart.specs.declared.row.Standing.TheVariants.{Open}
-use Rattle.chart.specs.declared.step.Interval.{Interval}
-use Rattle.chart.specs.declared.step.Step.{Step}
+use Rattle.chart.specs.declared.interval.Interval.{Interval}
+use Rattle.chart.specs.declared.interval.Step.{Step}
 use Rattle.chart.specs.declared.refusals.LatticeRefusal.{LatticeRefusal}
 use Rattle.chart.specs.declared.refusals.LatticeRefusal.TheVariants.{BadGrid, BadTimes}
 use Rattle.chart.specs.Limits.{max_rows, max_columns, max_seconds, max_level}
@@ -60,10 +60,13 @@ grid_leg rows top steps s r t = record {
 
 -- all of them
 unfoldable pub grid_legs : (rows columns top : ℕ) → List Step → List Row
-grid_legs rows columns top steps = map (λ k. grid_leg rows top steps (step_of rows k) (row_of rows k) (turn_of rows k)) (range_with_len 0 (grid_size rows columns))
+grid_legs rows columns top steps =
+    map
+    (λ k. grid_leg rows top steps (step_of rows k) (row_of rows k) (turn_of rows k))
+    (range_with_len 0 (grid_size rows columns))
 
 -- rows and columns are within their limits, and the steps given are one fewer than the columns
-pub record Shaped (rows columns steps : ℕ) : Type 0 where
+pub record IsGridShape (rows columns steps : ℕ) : Type 0 where
   pub some_rows : 1 ≤ rows
   pub few_rows : rows ≤ max_rows
   pub some_columns : 2 ≤ columns
@@ -71,42 +74,41 @@ pub record Shaped (rows columns steps : ℕ) : Type 0 where
   pub steps_fit : steps + 1 ≡ columns
 
 -- an interval is within the limits of times
-pub record Spans (i : Interval) : Type 0 where
+pub record IsValidInterval (i : Interval) : Type 0 where
   pub ordered : i.low ≤ i.high
   pub bounded : i.high ≤ max_seconds
 
 -- the interval of each turn of a step is within the limits of times
-abbrev pub StepTimed : Step → Type 0
-StepTimed x = (t : ℕ) → t < 3 → Spans (turn_at x t)
+abbrev pub IsValidStep : Step → Type 0
+IsValidStep x = (t : ℕ) → t < 3 → IsValidInterval (turn_at x t)
 
 -- the interval of each turn at each of the first n steps is within the limits of times
-abbrev pub StepsTimed : List Step → ℕ → Type 0
-StepsTimed steps n = (s : ℕ) → s < n → StepTimed (step_at steps s)
+abbrev pub AreValidSteps : List Step → ℕ → Type 0
+AreValidSteps steps n = (s : ℕ) → s < n → IsValidStep (step_at steps s)
 
 -- the top level and all intervals are within their limits
-pub record GridTimed (top : ℕ) (steps : List Step) : Type 0 where
+pub record HasValidGridTimes (top : ℕ) (steps : List Step) : Type 0 where
   pub level : top ≤ max_level
-  pub spans : StepsTimed steps (length steps)
-
--- the first n steps stand in the row at their places
-pub record Copied (steps row : List Step) (n : ℕ) : Type 0 where
-  pub same : (s : ℕ) → s < n → step_at row s ≡ step_at steps s
+  pub intervals : AreValidSteps steps (length steps)
 
 -- which refusal is owed to a lattice: its shape comes first, then its times and level
-abbrev pub LatticeOwes : (rows columns top : ℕ) → List Step → LatticeRefusal → Type 0
-LatticeOwes rows columns top steps BadGrid = Shaped rows columns (length steps) → ⊥
-LatticeOwes rows columns top steps BadTimes = Shaped rows columns (length steps) × (GridTimed top steps → ⊥)
+abbrev pub LatticeRefused : (rows columns top : ℕ) → List Step → LatticeRefusal → Type 0
+LatticeRefused rows columns top steps BadGrid = IsGridShape rows columns (length steps) → ⊥
+LatticeRefused rows columns top steps BadTimes =
+    IsGridShape rows columns (length steps) × (HasValidGridTimes top steps → ⊥)
 
 -- the step s, the row r and the turn at the place t are those of a leg of the grid, which has the number k
-pub record Numbers (rows columns s r t k : ℕ) : Type 0 where
+pub record HasNumber (rows columns s r t k : ℕ) : Type 0 where
   pub step_there : s + 1 < columns
   pub row_there : r < rows
   pub turn_there : t < 3
   pub arrives : 1 ≤ r + t
   pub stays : r + t ≤ rows
-  pub numbered : k + 1 ≡ s * step_legs rows + 3 * r + t
+  pub number : k + 1 ≡ s * step_legs rows + 3 * r + t
 
 -- each leg has a step, a row and a turn, and each step, row and turn within the grid has a leg
-pub record GridNumbered (rows columns : ℕ) : Type 0 where
-  pub onward : (k : ℕ) → k < grid_size rows columns → Numbers rows columns (step_of rows k) (row_of rows k) (turn_of rows k) k
-  pub back : (s r t k : ℕ) → Numbers rows columns s r t k → (k < grid_size rows columns) × (step_of rows k ≡ s) × (row_of rows k ≡ r) × (turn_of rows k ≡ t)
+pub record NumbersGrid (rows columns : ℕ) : Type 0 where
+  pub onward : (k : ℕ) → k < grid_size rows columns →
+      HasNumber rows columns (step_of rows k) (row_of rows k) (turn_of rows k) k
+  pub back : (s r t k : ℕ) → HasNumber rows columns s r t k →
+      (k < grid_size rows columns) × (step_of rows k ≡ s) × (row_of rows k ≡ r) × (turn_of rows k ≡ t)

@@ -4,14 +4,11 @@ pub mod Refusals
 pub mod Rows
 pub mod Routes
 pub mod Kinds
-pub mod Quickest
 pub mod Best
 pub mod Regret
 pub mod Floors
-pub mod Sizes
-pub mod KindLaws
-pub mod ChartLaws
 pub mod Tables
 pub mod Grid
-pub mod GridLaws
 pub mod Lattices
+pub mod internal
+pub mod laws

@@ -14,30 +14,30 @@ use Rattle.chart.specs.Limits.{min_fixes, max_fixes, max_legs, max_seconds, max_
 use Rattle.chart.specs.Legs.{no_leg}
 
 -- the numbers of a leg
-abbrev pub plain : Leg → Row
-plain l = record { from = l.from; to = l.to; low = l.low; high = l.high; top = l.top; standing = l.standing }
+abbrev pub row_of_leg : Leg → Row
+row_of_leg l = record { from = l.from; to = l.to; low = l.low; high = l.high; top = l.top; standing = l.standing }
 
 -- the times and the level of a row are within their limits
-pub record Timed (r : Row) : Type 0 where
+pub record HasValidTimes (r : Row) : Type 0 where
   pub ordered : r.low ≤ r.high
   pub bounded : r.high ≤ max_seconds
   pub level : r.top ≤ max_level
 
 -- a row joins two different fixes of a chart that has n
-pub record Placed (n : ℕ) (r : Row) : Type 0 where
+pub record HasValidFixes (n : ℕ) (r : Row) : Type 0 where
   pub leaves : r.from < n
   pub enters : r.to < n
   pub apart : r.from ≡ r.to → ⊥
 
 -- a row is a leg of a chart with n fixes
-pub record Sound (n : ℕ) (r : Row) : Type 0 where
-  pub timed : Timed r
-  pub placed : Placed n r
+pub record IsValidRow (n : ℕ) (r : Row) : Type 0 where
+  pub valid_times : HasValidTimes r
+  pub valid_fixes : HasValidFixes n r
 
 -- which refusal is owed to a row: its times and level come first, then its fixes
-abbrev pub RowOwes : ℕ → Row → RowRefusal → Type 0
-RowOwes n r BadTimes = Timed r → ⊥
-RowOwes n r BadFixes = Timed r × (Placed n r → ⊥)
+abbrev pub RowRefused : ℕ → Row → RowRefusal → Type 0
+RowRefused n r BadTimes = HasValidTimes r → ⊥
+RowRefused n r BadFixes = HasValidTimes r × (HasValidFixes n r → ⊥)
 
 -- what stands past the end of a list of rows
 abbrev pub no_row : Row
@@ -48,30 +48,47 @@ abbrev pub row_at : List Row → ℕ → Row
 row_at rows k = slice_index_or rows k no_row
 
 -- the number of fixes and the number of rows are within the limits of charts
-pub record Counted (n m : ℕ) : Type 0 where
+pub record HasValidCounts (n m : ℕ) : Type 0 where
   pub least : min_fixes ≤ n
   pub most : n ≤ max_fixes
   pub few : m ≤ max_legs
 
 -- each of the first m rows is a leg of a chart with n fixes
-abbrev pub AllSound : ℕ → List Row → ℕ → Type 0
-AllSound n rows m = (k : ℕ) → k < m → Sound n (row_at rows k)
+abbrev pub AreValidRows : ℕ → List Row → ℕ → Type 0
+AreValidRows n rows m = (k : ℕ) → k < m → IsValidRow n (row_at rows k)
 
 -- the first row that is no leg is owed the refusal e
-pub record FirstBad (n : ℕ) (rows : List Row) (e : RowRefusal) : Type 0 where
+pub record FirstRowRefused (n : ℕ) (rows : List Row) (e : RowRefusal) : Type 0 where
   pub place : ℕ
   pub there : place < length rows
-  pub before : AllSound n rows place
-  pub owes : RowOwes n (row_at rows place) e
+  pub before : AreValidRows n rows place
+  pub refused : RowRefused n (row_at rows place) e
 
 -- which refusal is owed to rows as a table with n fixes: the counts come first, then the first bad row
-abbrev pub TableOwes : ℕ → List Row → TableRefusal → Type 0
-TableOwes n rows BadCounts = Counted n (length rows) → ⊥
-TableOwes n rows (BadRow e) = Counted n (length rows) × FirstBad n rows e
+abbrev pub TableRefused : ℕ → List Row → TableRefusal → Type 0
+TableRefused n rows BadCounts = HasValidCounts n (length rows) → ⊥
+TableRefused n rows (BadRow e) = HasValidCounts n (length rows) × FirstRowRefused n rows e
+
+-- the leg with the numbers of a row that are within a leg's limits
+abbrev pub leg_within : (r : Row) → (r.from ≢ r.to) → r.low ≤ r.high → r.high ≤ max_seconds → r.top ≤ max_level → Leg
+leg_within r a o b l = record {
+  from = r.from;
+  to = r.to;
+  low = r.low;
+  high = r.high;
+  top = r.top;
+  standing = r.standing;
+  apart = a;
+  ordered = o;
+  bounded = b;
+  level = l;
+}
 
 -- the leg with the numbers of a row, by whether they are within a leg's limits
-unfoldable pub leg_by : (r : Row) → (r.from ≡ r.to) ⊎ (r.from ≢ r.to) → Dec (r.low ≤ r.high) → Dec (r.high ≤ max_seconds) → Dec (r.top ≤ max_level) → Leg
-leg_by r (inr a) (yes o) (yes b) (yes l) = record { from = r.from; to = r.to; low = r.low; high = r.high; top = r.top; standing = r.standing; apart = a; ordered = o; bounded = b; level = l }
+unfoldable pub leg_by : (r : Row) →
+    (r.from ≡ r.to) ⊎ (r.from ≢ r.to) → Dec (r.low ≤ r.high) → Dec (r.high ≤ max_seconds) → Dec (r.top ≤ max_level) →
+    Leg
+leg_by r (inr a) (yes o) (yes b) (yes l) = leg_within r a o b l
 leg_by r (inl _) o b l = no_leg
 leg_by r (inr a) (no _) b l = no_leg
 leg_by r (inr a) (yes o) (no _) l = no_leg

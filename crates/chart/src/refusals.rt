@@ -1,4 +1,5 @@
-// Why a row, a table or a lattice is refused. Each refusal has one number, and is printed as what it says in words.
+// Why a row, a table or a lattice is refused. Each refusal has one number, and is printed as what
+// it says in words.
 ghost use Rattle.std.specs.Prelude.{◌≡◌, ℕ, Some};
 ghost use Rattle.chart.specs.declared.refusals.TableRefusal.TheVariants.{BadRow};
 ghost use Rattle.chart.specs.Refusals.{row_number, table_number, lattice_number, row_words, table_words, lattice_words};
@@ -6,20 +7,21 @@ ghost use Rattle.chart.specs.Refusals.{row_number, table_number, lattice_number,
 use std::error::Error;
 use std::fmt;
 
-// A refusal of any call.
+/// A refusal of any call. It has a number, and is printed as what it says in words.
 pub trait Refusal: Error {
     ghost number_of: { Self → ℕ };
 
+    /// The number of the refusal, by which users know it.
     fn number(&self) -> u8
         ensures { result ≡ number_of self.now };
 }
 
-// Why a row is no leg of a chart.
+/// Why a row is no leg of a chart.
 #[derive(Clone, Copy, Debug, PartialEq, Eq)]
 pub enum RowRefusal {
-    // A time or the level is outside its limits, or low is above high.
+    /// Number 8: a time or the level is outside its limits, or low is above high.
     BadTimes,
-    // A fix is not one of the chart's, or both are the same.
+    /// Number 7: a fix is not one of the chart's, or both are the same.
     BadFixes,
 }
 
@@ -47,12 +49,13 @@ impl fmt::Display for RowRefusal {
 
 impl Error for RowRefusal {}
 
-// Why a table does not take its rows.
+/// Why a table does not take its rows.
 #[derive(Clone, Copy, Debug, PartialEq, Eq)]
 pub enum TableRefusal {
-    // The number of fixes or of rows is outside its limits.
+    /// Number 4: the number of fixes or of rows is outside its limits.
     BadCounts,
-    // The first row that is no leg of the chart.
+    /// The number of the refusal in it: the first row that is no leg of the chart is refused for
+    /// this reason.
     BadRow(RowRefusal),
 }
 
@@ -88,12 +91,13 @@ impl From<RowRefusal> for TableRefusal {
     }
 }
 
-// Why a lattice is refused.
+/// Why a lattice is refused.
 #[derive(Clone, Copy, Debug, PartialEq, Eq)]
 pub enum LatticeRefusal {
-    // The rows or columns are outside their limits, or the steps are not one fewer than the columns.
+    /// Number 16: the rows or columns are outside their limits, or the steps are not one fewer than
+    /// the columns.
     BadGrid,
-    // A time or the level is outside its limits, or a low is above its high.
+    /// Number 8: a time or the level is outside its limits, or a low is above its high.
     BadTimes,
 }
 

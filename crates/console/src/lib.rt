@@ -1,8 +1,13 @@
-// The program: where commands come from, and the morning that it carries.
+// The program: what it keeps between two commands, where commands come from, and the demo that it carries.
 #![tactic(auto)]
 
-pub mod carried;
-pub mod morning;
-pub mod run;
-pub mod scripts;
-mod tally;
+pub mod chart_files;
+pub mod demo;
+mod plan_state;
+pub mod program;
+pub mod session;
+
+pub use chart_files::{BuiltInFiles, Files, FolderFiles};
+pub use demo::show_demo;
+pub use program::{run, run_script};
+pub use session::Session;

@@ -1,7 +1,7 @@
-pub mod Parts
-pub mod Fixes
-pub mod Avoiding
-pub mod Beginning
-pub mod Shutting
-pub mod Bounds
-pub mod Finding
+pub mod JoinedLists
+pub mod FixesOfChains
+pub mod AvoidingTotals
+pub mod RoutesExtending
+pub mod ShutLegs
+pub mod FloorBelowRegret
+pub mod FloorFromTotals

@@ -1,7 +1,7 @@
 -- What the floor call answers.
 use Rattle.std.specs.Prelude.{ℕ, List, Ok, Err, Result, codes}
-use Rattle.chart.specs.Regret.{Trip}
-use Rattle.chart.specs.Floors.{Starts, Floor, NoneBegins}
+use Rattle.chart.specs.Regret.{Query}
+use Rattle.chart.specs.Floors.{LeavesSource, IsFloor, NoRouteExtends}
 use Rattle.regret.specs.declared.refusals.RegretRefusal.TheVariants.{NotARoute}
 use Rattle.regret.specs.Answers.{regret_words}
 use Rattle.floor.specs.declared.refusals.FloorRefusal.{FloorRefusal}
@@ -18,7 +18,7 @@ floor_words NotAChain = regret_words NotARoute
 floor_words NoRoute = codes "no route, or none that begins so"
 
 -- the floor of a chain; or that the list is no chain; or that it is one, and no route begins with it
-abbrev pub FloorAnswer : Trip → List ℕ → Result ℕ FloorRefusal → Type 0
-FloorAnswer t ks (Ok x) = Starts t ks × Floor t ks x
-FloorAnswer t ks (Err NotAChain) = Starts t ks → ⊥
-FloorAnswer t ks (Err NoRoute) = Starts t ks × NoneBegins t ks
+abbrev pub FloorAnswer : Query → List ℕ → Result ℕ FloorRefusal → Type 0
+FloorAnswer t ks (Ok x) = LeavesSource t ks × IsFloor t ks x
+FloorAnswer t ks (Err NotAChain) = LeavesSource t ks → ⊥
+FloorAnswer t ks (Err NoRoute) = LeavesSource t ks × NoRouteExtends t ks

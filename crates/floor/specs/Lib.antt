@@ -1,5 +1,3 @@
-pub mod Avoid
-pub mod AvoidLaws
-pub mod Onward
-pub mod Braces
 pub mod Answers
+pub mod internal
+pub mod laws

@@ -1,8 +1,10 @@
 // The floor of a chain: a regret that every route which begins with the chain has at least.
 #![tactic(auto)]
 
-mod avoid;
-mod braces;
-pub mod floors;
+mod floor_choice;
+mod floors;
 mod onward;
-pub mod refusals;
+mod refusals;
+
+pub use floors::{floor, floor_on};
+pub use refusals::FloorRefusal;

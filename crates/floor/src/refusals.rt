@@ -2,17 +2,17 @@
 ghost use Rattle.std.specs.Prelude.{Some};
 ghost use Rattle.floor.specs.Answers.{floor_number, floor_words};
 
-use chart::refusals::Refusal;
-use regret::refusals::RegretRefusal;
+use chart::Refusal;
+use regret::RegretRefusal;
 use std::error::Error;
 use std::fmt;
 
-// Why a list of legs has no floor.
+/// Why a list of legs has no floor.
 #[derive(Clone, Copy, Debug, PartialEq, Eq)]
 pub enum FloorRefusal {
-    // It is no chain that leaves the departure.
+    /// Number 14: it is no chain that leaves the departure.
     NotAChain,
-    // No route begins with it.
+    /// Number 25: it is a chain that leaves the departure, and no route begins with it.
     NoRoute,
 }
 

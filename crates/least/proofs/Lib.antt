@@ -1,7 +1,7 @@
-pub mod Lexical
-pub mod Unique
-pub mod Weighing
-pub mod Dropping
-pub mod Sweeping
-pub mod Exploring
-pub mod Finding
+pub mod LexicalOrder
+pub mod UniqueLeastRegret
+pub mod UpdatedIncumbent
+pub mod PrunedChains
+pub mod SearchedParts
+pub mod ExploredLegs
+pub mod OptimalRoute

@@ -1,10 +1,9 @@
 // The route of least regret between two fixes of a chart, and its regret.
 #![tactic(auto)]
 
-mod explore;
-pub mod found;
-mod hopeless;
-pub mod refusals;
-pub mod routes;
-mod sweep;
-mod weigh;
+mod branch_and_bound;
+mod refusals;
+mod routes;
+
+pub use refusals::RouteRefusal;
+pub use routes::{FoundRoute, least_regret};

@@ -2,17 +2,17 @@
 ghost use Rattle.std.specs.Prelude.{Some};
 ghost use Rattle.least.specs.Answers.{route_number, route_words};
 
-use chart::refusals::Refusal;
-use floor::refusals::FloorRefusal;
+use chart::Refusal;
+use floor::FloorRefusal;
 use std::error::Error;
 use std::fmt;
 
-// Why no route is written.
+/// Why no route is written. The memory then stays as it is.
 #[derive(Clone, Copy, Debug, PartialEq, Eq)]
 pub enum RouteRefusal {
-    // The memory has no room for the longest route that the chart could have.
+    /// The memory has fewer places than a route of the chart can have legs. Its number is 15.
     ShortMemory,
-    // No route leads from the departure to the destination.
+    /// No route leads from the departure to the destination. Its number is 25.
     NoRoute,
 }
 

@@ -1,3 +1,3 @@
-pub mod Entering
-pub mod Judging
-pub mod Granting
+pub mod InsertAndRemove
+pub mod FirstGrounds
+pub mod AmendAnswers

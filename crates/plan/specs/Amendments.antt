@@ -3,8 +3,8 @@ use Rattle.std.specs.Prelude.{Bool, true, false, ⊤}
 use Rattle.chart.specs.declared.row.Row.{Row}
 use Rattle.chart.specs.declared.row.Standing.TheVariants.{Open, Closed}
 use Rattle.chart.specs.declared.leg.Leg.{Leg}
-use Rattle.chart.specs.Grid.{Spans}
-use Rattle.chart.specs.Rows.{plain, leg_of}
+use Rattle.chart.specs.Grid.{IsValidInterval}
+use Rattle.chart.specs.Rows.{row_of_leg, leg_of}
 use Rattle.plan.specs.declared.amendment.Change.{Change}
 use Rattle.plan.specs.declared.amendment.Change.TheVariants.{Close, Times, Restore}
 
@@ -17,13 +17,13 @@ changed_row own row Restore = own
 
 -- the leg after a change, where `own` is the chart's own leg
 unfoldable pub changed_leg : (own leg : Leg) → Change → Leg
-changed_leg own leg change = leg_of (changed_row (plain own) (plain leg) change)
+changed_leg own leg change = leg_of (changed_row (row_of_leg own) (row_of_leg leg) change)
 
 -- the times that a change gives, if any, are within their limits
-abbrev pub ChangeTimed : Change → Type 0
-ChangeTimed Close = ⊤
-ChangeTimed (Times times) = Spans times
-ChangeTimed Restore = ⊤
+abbrev pub ChangeHasValidTimes : Change → Type 0
+ChangeHasValidTimes Close = ⊤
+ChangeHasValidTimes (Times times) = IsValidInterval times
+ChangeHasValidTimes Restore = ⊤
 
 -- whether a change gives the chart's own leg back
 abbrev pub restores : Change → Bool

@@ -2,10 +2,10 @@
 use Rattle.std.specs.Prelude.{ℕ, ◌+◌, ◌==◌, ◌&&◌, ◌||◌, not, nat_lt, nat_le, Bool, false, cond, List, [], ◌∷◌, ◌++◌, length, slice_set, Ok, Err, Result}
 use Rattle.std.specs.List.{filter, list_any}
 use Rattle.chart.specs.declared.leg.Leg.{Leg}
-use Rattle.chart.specs.declared.ends.Ends.{Ends}
-use Rattle.chart.specs.Legs.{at}
+use Rattle.chart.specs.declared.Ends.{Ends}
+use Rattle.chart.specs.Legs.{leg_at}
 use Rattle.chart.specs.Limits.{max_seconds}
-use Rattle.chart.specs.Regret.{Trip, trip}
+use Rattle.chart.specs.Regret.{Query, query}
 use Rattle.plan.specs.declared.amendment.Change.{Change}
 use Rattle.plan.specs.declared.amendment.Change.TheVariants.{Close, Times, Restore}
 use Rattle.plan.specs.declared.amendment.Amendment.{Amendment}
@@ -27,54 +27,54 @@ abbrev pub at_filing : List Leg → Ends → Ledger
 at_filing own ends = record { revision = 0; legs = own; amended = []; departure = ends.from; destination = ends.to }
 
 -- where its routes are wanted
-abbrev pub trip_of : Ledger → Trip
-trip_of l = trip l.legs l.departure l.destination
+abbrev pub query_of : Ledger → Query
+query_of l = query l.legs l.departure l.destination
 
 -- whether the number k stands among the amended ones
-abbrev pub stands : Ledger → ℕ → Bool
-stands l k = list_any (λ j. j == k) l.amended
+abbrev pub is_amended : Ledger → ℕ → Bool
+is_amended l k = list_any (λ j. j == k) l.amended
 
 -- whether a change gives times outside their limits
-abbrev pub mistimed : Change → Bool
-mistimed Close = false
-mistimed (Times times) = nat_lt times.high times.low || nat_lt max_seconds times.high
-mistimed Restore = false
+abbrev pub has_invalid_times : Change → Bool
+has_invalid_times Close = false
+has_invalid_times (Times times) = nat_lt times.high times.low || nat_lt max_seconds times.high
+has_invalid_times Restore = false
 
 -- whether a ground applies to an amendment
 abbrev pub applies : Ledger → Amendment → AmendRefusal → Bool
 applies l a NoSuchLeg = nat_le (length l.legs) a.leg
-applies l a BadTimes = mistimed a.change
+applies l a BadTimes = has_invalid_times a.change
 applies l a LastRevision = l.revision == last_revision
 applies l a OtherRevision = not (a.revision == l.revision)
-applies l a NotAmended = restores a.change && not (stands l a.leg)
-applies l a NoPlace = not (restores a.change) && (not (stands l a.leg) && (length l.amended == max_amended))
+applies l a NotAmended = restores a.change && not (is_amended l a.leg)
+applies l a NoPlace = not (restores a.change) && (not (is_amended l a.leg) && (length l.amended == max_amended))
 
 -- all grounds, in their order
-abbrev pub in_order : List AmendRefusal
-in_order = NoSuchLeg ∷ BadTimes ∷ LastRevision ∷ OtherRevision ∷ NotAmended ∷ NoPlace ∷ []
+abbrev pub all_grounds : List AmendRefusal
+all_grounds = NoSuchLeg ∷ BadTimes ∷ LastRevision ∷ OtherRevision ∷ NotAmended ∷ NoPlace ∷ []
 
 -- the grounds that apply to an amendment, in their order
 unfoldable pub grounds : Ledger → Amendment → List AmendRefusal
-grounds l a = filter (applies l a) in_order
+grounds l a = filter (applies l a) all_grounds
 
--- a number is entered unless it is there
-abbrev pub entered : List ℕ → ℕ → List ℕ
-entered ks k = cond (list_any (λ j. j == k) ks) ks (ks ++ k ∷ [])
+-- a number is inserted unless it is there
+abbrev pub insert_number : List ℕ → ℕ → List ℕ
+insert_number ks k = cond (list_any (λ j. j == k) ks) ks (ks ++ k ∷ [])
 
--- a number is struck
-abbrev pub struck : List ℕ → ℕ → List ℕ
-struck ks k = filter (λ j. not (j == k)) ks
+-- a number is removed
+abbrev pub remove_number : List ℕ → ℕ → List ℕ
+remove_number ks k = filter (λ j. not (j == k)) ks
 
 -- the amended numbers after a change of the leg k
-abbrev pub renumbered : List ℕ → ℕ → Change → List ℕ
-renumbered ks k change = cond (restores change) (struck ks k) (entered ks k)
+abbrev pub amended_after : List ℕ → ℕ → Change → List ℕ
+amended_after ks k change = cond (restores change) (remove_number ks k) (insert_number ks k)
 
 -- the ledger once an amendment is granted, on a chart whose own legs are `own`
 abbrev pub amended_by : List Leg → Ledger → Amendment → Ledger
 amended_by own l a = record l {
   revision = l.revision + 1;
-  legs = slice_set l.legs a.leg (changed_leg (at own a.leg) (at l.legs a.leg) a.change);
-  amended = renumbered l.amended a.leg a.change;
+  legs = slice_set l.legs a.leg (changed_leg (leg_at own a.leg) (leg_at l.legs a.leg) a.change);
+  amended = amended_after l.amended a.leg a.change;
 }
 
 -- what is answered where these grounds apply: the first of them, or the next revision where there are none

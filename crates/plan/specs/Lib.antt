@@ -5,5 +5,5 @@ pub mod Ledgers
 pub mod Overlays
 pub mod Plans
 pub mod Answers
-pub mod Places
-pub mod PlanLaws
+pub mod internal
+pub mod laws

@@ -1,12 +1,12 @@
 -- The legs of a plan: the chart's, with the amended ones in their places.
 use Rattle.std.specs.Prelude.{ℕ, List, [], ◌∷◌, map, slice_set}
 use Rattle.chart.specs.declared.leg.Leg.{Leg}
-use Rattle.chart.specs.Legs.{at}
-use Rattle.plan.specs.declared.amended.Amended.{Amended}
+use Rattle.chart.specs.Legs.{leg_at}
+use Rattle.plan.specs.declared.amendment.AmendedLeg.{AmendedLeg}
 
 -- a leg with the times and the standing of an amended one
-unfoldable pub over : Leg → Amended → Leg
-over leg amended = record {
+unfoldable pub overlay_leg : Leg → AmendedLeg → Leg
+overlay_leg leg amended = record {
   from = leg.from;
   to = leg.to;
   low = amended.times.low;
@@ -20,10 +20,10 @@ over leg amended = record {
 }
 
 -- a chart's legs with the amended ones in their places
-unfoldable pub overlay : List Leg → List Amended → List Leg
+unfoldable pub overlay : List Leg → List AmendedLeg → List Leg
 overlay legs [] = legs
-overlay legs (amended ∷ more) = slice_set (overlay legs more) amended.number (over (at legs amended.number) amended)
+overlay legs (amended ∷ more) = slice_set (overlay legs more) amended.number (overlay_leg (leg_at legs amended.number) amended)
 
 -- the numbers of amended legs
-abbrev pub numbers : List Amended → List ℕ
-numbers amended = map (λ (a : Amended). a.number) amended
+abbrev pub amended_numbers : List AmendedLeg → List ℕ
+amended_numbers amended = map (λ (a : AmendedLeg). a.number) amended

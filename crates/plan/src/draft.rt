@@ -1,16 +1,12 @@
 // A plan that is not filed yet.
 ghost use Rattle.std.specs.Prelude.{◌≡◌, ◌+◌, MatchResult};
-ghost use Rattle.plan.specs.Ledgers.{at_filing};
-ghost use Rattle.plan.specs.Plans.{ledger_of};
-ghost use Rattle.plan.specs.Answers.{EndsOwe, EndsLawful};
 
 use super::filed::Filed;
 use super::refusals::EndsRefusal;
 use arrayvec::ArrayVec;
-use chart::charts::Chart;
-use chart::ends::Ends;
+use chart::{Chart, Ends};
 
-// It has its chart and its ends. It has no call that amends.
+/// A plan that is not filed yet: it has its chart and its ends. It has no call that routes or amends.
 #[derive(Drop)]
 pub struct Draft<C> {
     pub(crate) chart: C,
@@ -18,11 +14,15 @@ pub struct Draft<C> {
 }
 
 impl<C: Chart> Draft<C> {
-    // A draft on a chart runs from its first fix to its last.
+    ghost use Rattle.plan.specs.Ledgers.{at_filing};
+    ghost use Rattle.plan.specs.Plans.{chart_of_draft, ends_of_draft, HasNewEnds, chart_of, ledger_of};
+    ghost use Rattle.plan.specs.Answers.{EndsRefused, AreValidEnds};
+
+    /// A draft on a chart. It runs from the chart's first fix to its last, until other ends are set.
     pub fn new(chart: C) -> Draft<C>
-        ensures chart { result.chart ≡ chart }
-        ensures from_the_first { result.ends.from ≡ 0 }
-        ensures to_the_last { result.ends.to + 1 ≡ C.fixes chart }
+        ensures chart { chart_of_draft result ≡ chart }
+        ensures from_the_first { (ends_of_draft result).from ≡ 0 }
+        ensures to_the_last { (ends_of_draft result).to + 1 ≡ C.fixes chart }
     {
         let last = chart.n() - 1;
         Draft {
@@ -31,9 +31,13 @@ impl<C: Chart> Draft<C> {
         }
     }
 
-    // Sets the ends to two different fixes.
+    /// Sets the ends to two different fixes. It is refused with 11 where one of them is no fix of the chart, and with 12 where
+    /// both are the same; the draft then keeps the ends that it had.
     pub fn ends(&mut self, departure: u16, destination: u16) -> Result<(), EndsRefusal>
-        ensures { MatchResult result (λ _. EndsLawful (C.fixes self.old.chart) departure destination × (self.new ≡ record self.old { ends = record { from = departure; to = destination } })) (λ e. EndsOwe (C.fixes self.old.chart) departure destination e × (self.new ≡ self.old)) }
+        ensures { MatchResult result
+            (λ _. AreValidEnds (C.fixes (chart_of_draft self.old)) departure destination
+            × HasNewEnds self.old self.new departure destination)
+            (λ e. EndsRefused (C.fixes (chart_of_draft self.old)) departure destination e × (self.new ≡ self.old)) }
     {
         let n = self.chart.n();
         if departure >= n || destination >= n {
@@ -49,11 +53,11 @@ impl<C: Chart> Draft<C> {
         Ok(())
     }
 
-    // Files the plan, at revision 0 and with no leg amended.
+    /// Files the plan: it stands at revision 0, with its chart, its ends and no leg amended. It is never refused.
     #[tactic(auto, unfolding(crate::specs::Overlays::overlay))]
     pub fn file(self) -> Filed<C>
-        ensures chart { result.chart ≡ self.chart }
-        ensures ledger { ledger_of C.legs result ≡ at_filing (C.legs self.chart) self.ends }
+        ensures chart { chart_of result ≡ chart_of_draft self }
+        ensures ledger { ledger_of C.legs result ≡ at_filing (C.legs (chart_of_draft self)) (ends_of_draft self) }
     {
         let Draft { chart, ends } = self;
         Filed {

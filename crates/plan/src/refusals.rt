@@ -2,25 +2,25 @@
 ghost use Rattle.std.specs.Prelude.{Some};
 ghost use Rattle.plan.specs.Refusals.{amend_number, amend_words, ends_number, ends_words, best_number, best_words};
 
-use chart::refusals::{Refusal, RowRefusal};
-use floor::refusals::FloorRefusal;
+use chart::{Refusal, RowRefusal};
+use floor::FloorRefusal;
 use std::error::Error;
 use std::fmt;
 
-// Why a plan is not amended.
+/// Why a plan is not amended, in the order in which the grounds are tried. The plan then stays what it was.
 #[derive(Clone, Copy, Debug, PartialEq, Eq)]
 pub enum AmendRefusal {
-    // The chart has no leg of the number.
+    /// 13: the chart has no leg of the number.
     NoSuchLeg,
-    // A time is outside its limits, or low is above high.
+    /// 8: a time is outside its limits, or low is above high.
     BadTimes,
-    // The plan stands at the last revision.
+    /// 22: the plan stands at the last revision.
     LastRevision,
-    // The plan stands at another revision than the one given.
+    /// 21: the plan stands at another revision than the one given.
     OtherRevision,
-    // The leg to be restored is not amended.
+    /// 24: the leg to be restored does not stand amended.
     NotAmended,
-    // As many legs as can be stand amended, and this is none of them.
+    /// 23: as many legs as can be stand amended, and this is none of them.
     NoPlace,
 }
 
@@ -56,12 +56,12 @@ impl fmt::Display for AmendRefusal {
 
 impl Error for AmendRefusal {}
 
-// Why a draft does not take its ends.
+/// Why a draft does not take its ends, in the order in which the grounds are tried. The draft then keeps the ends that it had.
 #[derive(Clone, Copy, Debug, PartialEq, Eq)]
 pub enum EndsRefusal {
-    // One of them is no fix of the chart.
+    /// 11: one of them is no fix of the chart.
     NoSuchFix,
-    // Both are the same.
+    /// 12: both are the same.
     SameFix,
 }
 
@@ -89,10 +89,10 @@ impl fmt::Display for EndsRefusal {
 
 impl Error for EndsRefusal {}
 
-// Why there is no best total.
+/// Why there is no best total.
 #[derive(Clone, Copy, Debug, PartialEq, Eq)]
 pub enum BestRefusal {
-    // No route leads from the departure to the destination.
+    /// 25: no route leads from the departure to the destination.
     NoRoute,
 }
 

@@ -1,6 +1,6 @@
-mod Carrying
+mod FaultPassedOn
 mod NamesAt
-mod Openings
-mod Stages
-mod Fillings
-mod Taking
+mod PrefixWithRecord
+mod AfterRecords
+mod MemoryFilled
+mod LegsAlwaysTaken

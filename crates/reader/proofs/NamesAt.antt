@@ -2,9 +2,9 @@
 use Rattle.std.proofs.Common.{◌≡◌, ℕ, zero, suc, ◌+◌, ◌<◌, List, [], ◌∷◌, ◌++◌, length, get_or, take, drop, refl, ap, ◌∙◌, arith}
 use Rattle.std.proofs.lemmas.List.{drop-drop}
 use Rattle.std.proofs.lemmas.Grind.{common_steps}
-use Rattle.records.specs.Format.{name_at}
-use Rattle.records.specs.Checks.{byte, body, name_in}
-use Rattle.reader.specs.Places.{names_at}
+use Rattle.chart_format.specs.Format.{name_at, name_offset}
+use Rattle.chart_format.specs.Checks.{byte, body, name_in}
+use Rattle.reader.specs.internal.RecordPlaces.{names_at}
 
 pub names_length : (file ps : List ℕ) → length (names_at file ps) ≡ length ps
 names_length file [] = refl
@@ -24,7 +24,7 @@ front_by_length : (k : ℕ) (xs : List ℕ) → take k xs ≡ take (length (take
 front_by_length k xs = grind (arith, common_steps)
 
 -- a name is the part of the file after its record's mark and its length
-pub name_part : (file : List ℕ) (p : ℕ) → name_in (body (drop p file)) ≡ take (length (name_in (body (drop p file)))) (drop (p + 2 + 1) file)
+pub name_part : (file : List ℕ) (p : ℕ) → name_in (body (drop p file)) ≡ take (length (name_in (body (drop p file)))) (drop (p + name_offset) file)
 name_part file p =
     front_by_length (byte (body (drop p file)) 0) (drop 1 (body (drop p file)))
-    ∙ ap (take (length (name_in (body (drop p file))))) (ap (drop 1) (drop-drop 2 p file) ∙ drop-drop 1 (p + 2) file)
+    ∙ ap (take (length (name_in (body (drop p file))))) (ap (drop 1) (drop-drop 2 p file) ∙ drop-drop 1 (p + 2) file ∙ ap (λ k. drop k file) (omega arith))

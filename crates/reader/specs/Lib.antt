@@ -1,2 +1,2 @@
-pub mod Places
 pub mod Readings
+pub mod internal

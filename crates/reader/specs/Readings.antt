@@ -1,16 +1,27 @@
 -- What a reader holds once its file is accepted.
 use Rattle.std.specs.Prelude.{◌≡◌, ℕ, ◌<◌, ◌≤◌, List, ◌++◌, length, take, drop, codes}
 use Rattle.chart.specs.declared.row.Row.{Row}
-use Rattle.records.specs.Format.{Name, Means, name_at, name_place}
-use Rattle.reader.specs.declared.counts.Counts.{Counts}
+use Rattle.chart_format.specs.Format.{Name, Means, name_at, name_place}
+use Rattle.reader.specs.declared.file_index.Counts.{Counts}
 use Rattle.reader.specs.declared.fix_name.FixName.{FixName}
 use Rattle.reader.specs.declared.fix_name.NoSuchFix.{NoSuchFix}
-use Rattle.reader.specs.declared.readers.Reader.{Reader}
-use Rattle.reader.specs.Places.{names_at}
+use Rattle.reader.specs.declared.reader.Reader.{Reader}
+use Rattle.reader.specs.internal.RecordPlaces.{names_at}
+
+-- the bytes of the file, and the place that reading has come to in it
+abbrev pub file_of : Reader → List ℕ
+file_of r = r.cursor.file.now
+
+abbrev pub reading_place : Reader → ℕ
+reading_place r = r.cursor.place
 
 -- the names of the accepted file; none before
 unfoldable pub names_of : Reader → List Name
-names_of r = names_at r.cursor.file.now r.starts.items
+names_of r = names_at (file_of r) r.starts.items
+
+-- the reader has the names that it had, at the same places
+abbrev pub HasSameNames : Reader → Reader → Type 0
+HasSameNames was is = (names_of is ≡ names_of was) × (is.starts ≡ was.starts)
 
 -- the file means a chart: the reader has its names and stands after the end record, the counts are its own, the first places
 -- of memory hold its legs, and later places what they held
@@ -21,10 +32,10 @@ pub record Accepts (file : List ℕ) (counts : Counts) (reader : Reader) (was is
   pub count : counts.legs ≡ length legs
   pub room : length legs ≤ length was
   pub filled : is ≡ legs ++ drop (length legs) was
-  pub place : reader.cursor.place ≡ length file
+  pub place : reading_place reader ≡ length file
 
 -- the name of the fix k of these, which is that part of the file itself, with its place
-pub record Names (file : List ℕ) (names : List Name) (k : ℕ) (name : FixName) : Type 0 where
+pub record IsNameOfFix (file : List ℕ) (names : List Name) (k : ℕ) (name : FixName) : Type 0 where
   pub there : k < length names
   pub text : name.text.now ≡ name_at names k
   pub place : name.place ≡ name_place names k

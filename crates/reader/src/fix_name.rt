@@ -2,18 +2,18 @@
 ghost use Rattle.std.specs.Prelude.{Some};
 ghost use Rattle.reader.specs.Readings.{name_number, name_words};
 
-use chart::refusals::Refusal;
+use chart::Refusal;
 use std::error::Error;
 use std::fmt;
 
-// A part of the file itself, and its place there.
+/// The name of a fix: that part of the file itself, and its place there, in bytes from the beginning of the file.
 #[derive(Clone, Copy, Debug, PartialEq, Eq)]
 pub struct FixName<'a> {
     pub text: &'a [u8],
     pub place: usize,
 }
 
-// The accepted file has no fix of this number, or no file is accepted yet.
+/// The refusal (11) where the accepted file has no fix of this number, or no file is accepted yet.
 #[derive(Clone, Copy, Debug, PartialEq, Eq)]
 pub struct NoSuchFix;
 

@@ -1,13 +1,12 @@
 // Reads chart files: the legs into the caller's memory, the names by the numbers of their fixes.
 #![tactic(auto)]
 
-pub mod counts;
-pub mod cursor;
-mod files;
-pub mod fix_name;
-mod guards;
-mod names;
-pub mod readers;
-mod reading;
-pub mod reads;
-pub mod tables;
+mod cursor;
+mod file_index;
+mod fix_name;
+mod guard;
+mod reader;
+
+pub use file_index::Counts;
+pub use fix_name::{FixName, NoSuchFix};
+pub use reader::Reader;

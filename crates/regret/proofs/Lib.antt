@@ -1,4 +1,3 @@
-pub mod Walks
-pub mod Worsts
-pub mod Losing
-pub mod Present
+pub mod WorstChoice
+pub mod RegretFromBest
+pub mod EveryRouteHasRegret

@@ -1,3 +1,3 @@
-pub mod Walks
-pub mod Marked
+pub mod FlaggedTimes
 pub mod Answers
+pub mod laws

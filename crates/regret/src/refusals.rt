@@ -2,14 +2,14 @@
 ghost use Rattle.std.specs.Prelude.{Some};
 ghost use Rattle.regret.specs.Answers.{regret_number, regret_words};
 
-use chart::refusals::Refusal;
+use chart::Refusal;
 use std::error::Error;
 use std::fmt;
 
-// Why a list of legs has no regret.
+/// Why a list of legs has no regret.
 #[derive(Clone, Copy, Debug, PartialEq, Eq)]
 pub enum RegretRefusal {
-    // It is no route from the departure to the destination.
+    /// Number 14: it is no route from the departure to the destination.
     NotARoute,
 }
 

@@ -1,4 +1,4 @@
-pub mod Paying
-pub mod Keeping
-pub mod Turns
-pub mod Agreeing
+pub mod Replying
+pub mod LedgerKept
+pub mod OneMoreCall
+pub mod OneOutcome

@@ -1,5 +1,4 @@
 pub mod Histories
-pub mod Said
-pub mod Owed
+pub mod Outcomes
+pub mod RepliesTo
 pub mod Law
-pub mod Words

@@ -1,9 +1,12 @@
 // Runs of calls on a filed plan, and the law that every run keeps.
 #![tactic(auto)]
 
-pub mod calls;
-pub mod filing;
-mod making;
-pub mod refusals;
-pub mod replies;
-pub mod running;
+pub mod call;
+pub mod file_and_run;
+pub mod reply;
+pub mod run;
+
+pub use call::Call;
+pub use file_and_run::RunRejected;
+pub use reply::Reply;
+pub use run::RunRefusal;

@@ -1,7 +1,9 @@
-pub mod Linking
-pub mod Leaving
-pub mod Marks
-pub mod Picks
-pub mod Easing
-pub mod Turns
-pub mod Ends
+pub mod AdjacencyIndexes
+pub mod LegsLeaving
+pub mod FixStates
+pub mod BestReached
+pub mod RelaxedLegs
+pub mod RelaxingSteps
+pub mod LabelsAreBest
+pub mod LongerWalks
+pub mod WalkedChains

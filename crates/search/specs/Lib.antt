@@ -1,5 +1,5 @@
-pub mod Index
+pub mod LegsLeaving
 pub mod Snapshots
-pub mod Sound
-pub mod Labels
-pub mod State
+pub mod Walks
+pub mod internal
+pub mod laws

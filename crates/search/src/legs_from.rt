@@ -4,7 +4,7 @@ ghost use Rattle.std.specs.Iterator.{YieldsFirst, item_count};
 use super::snapshot::Snapshot;
 use std::marker::Model;
 
-// The numbers of the legs that leave a fix, rising, seen as the list of those that are left.
+/// The numbers of the legs that leave a fix of a snapshot, rising, seen as the list of those that are left.
 #[derive(Drop)]
 pub struct LegsFrom<'a> {
     pub(crate) snapshot: &'a Snapshot,
@@ -16,12 +16,12 @@ impl<'a> Model for LegsFrom<'a> {
 
     ghost Value = { List ℕ };
 
-    ghost use Rattle.search.specs.Index.{left_from, IsLeg};
-    ghost use Rattle.search.specs.Snapshots.{legs_of};
+    ghost use Rattle.search.specs.Snapshots.{snapshot_legs};
+    ghost use Rattle.search.specs.internal.Index.{legs_left_from, IsLeg};
 
-    ghost view = { λ it. left_from (legs_of it.snapshot.now) it.next };
+    ghost view = { λ it. legs_left_from (snapshot_legs it.snapshot.now) it.next };
 
-    ghost invariant = { λ it. IsLeg (legs_of it.snapshot.now) it.next };
+    ghost invariant = { λ it. IsLeg (snapshot_legs it.snapshot.now) it.next };
 }
 
 impl<'a> Iterator for LegsFrom<'a> {

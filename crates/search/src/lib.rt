@@ -1,13 +1,15 @@
-// The best total of a route, for any kind of total, over a snapshot of any chart.
+// The best total of a route, for any kind of total, over a snapshot of any chart; and walks along lists of legs.
 #![tactic(auto)]
 
-pub mod best;
-pub mod legs_from;
-mod linked;
-mod mark;
-mod picking;
-pub mod questions;
-mod settling;
-pub mod snapshot;
-mod state;
-mod taking;
+mod best_total;
+mod legs_from;
+mod search_state;
+mod snapshot;
+mod walked;
+mod walking;
+
+pub use best_total::{best, best_on};
+pub use legs_from::LegsFrom;
+pub use snapshot::Snapshot;
+pub use walked::Walked;
+pub use walking::{is_flagged, step, walk};

@@ -1,7 +1,7 @@
 // The program on the commands of standard input. It is a crate of its own, since a crate is run on one input.
 #![tactic(auto)]
 
-use console::run::run;
+use console::run;
 
 fn main(rt: HostRuntime) -> anyhow::Result<()> {
     run(&rt)

@@ -1,7 +1,7 @@
 // The program. All that it does stands in the library `console`.
 #![tactic(auto)]
 
-use console::run::run;
+use console::run;
 
 fn main(rt: HostRuntime) -> anyhow::Result<()> {
     run(&rt)

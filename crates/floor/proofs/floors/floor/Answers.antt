@@ -1,4 +1,4 @@
-use Rattle.floor.proofs.Bounds.{floor_is_below_every_regret, floor_is_never_negative, floor_is_unique}
+use Rattle.floor.proofs.FloorBelowRegret.{floor_is_below_every_regret, floor_is_never_negative, floor_is_unique}
 use Rattle.floor.proofs.floors.floor.Goals as goal
 
 pub returns-clause-below_every_regret : goal.returns-clause-below_every_regret

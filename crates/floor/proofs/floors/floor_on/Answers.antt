@@ -1,13 +1,13 @@
 use Rattle.std.proofs.Common.{◌≡◌, ◌+◌, ◌-◌, ◌≤◌, Ok, Err, sym, arith}
 use Rattle.std.proofs.lemmas.Bool.{eqb-true, eqb-false}
 use Rattle.std.proofs.lemmas.Result.{err_from_is_err_and}
-use Rattle.chart.specs.Regret.{trip}
-use Rattle.search.specs.Snapshots.{legs_of}
-use Rattle.search.specs.Sound.{snapshot_charted}
+use Rattle.chart.specs.Regret.{query}
+use Rattle.search.specs.Snapshots.{snapshot_legs}
+use Rattle.search.specs.laws.SnapshotLaws.{snapshot_is_chart}
 use Rattle.floor.specs.declared.refusals.FloorRefusal.TheVariants.{NotAChain, NoRoute}
 use Rattle.floor.specs.Answers.{FloorAnswer}
-use Rattle.floor.proofs.Beginning.{none_begins, nearest_small, empty_no_route, some_no_chain}
-use Rattle.floor.proofs.Finding.{floor_found, refused}
+use Rattle.floor.proofs.RoutesExtending.{no_route_extends, least_extension_small, empty_no_route, some_no_chain}
+use Rattle.floor.proofs.FloorFromTotals.{floor_found, refused}
 use Rattle.floor.proofs.floors.floor_on.Goals as goal
 use Rattle.floor.proofs.floors.floor_on.Goals.{then-is_empty, else-is_empty}
 
@@ -23,16 +23,16 @@ returns-in_err-walked c =
     elim c.if-is_empty.branch [
       | then-is_empty w ↦
           let is = refused c.from_residual.result p.0 _ c.if-is_empty.unwalked NoRoute c.walk.result p.1 p.2 v n w.unwalked-is in
-          rw is (empty_no_route (legs_of s) (snapshot_charted s) ends.from ends.to ks none (eqb-true _ _ (sym w.if-is_empty.ensures)))
+          rw is (empty_no_route (snapshot_legs s) (snapshot_is_chart s) ends.from ends.to ks none (eqb-true _ _ (sym w.if-is_empty.ensures)))
       | else-is_empty w ↦
           let is = refused c.from_residual.result p.0 _ c.if-is_empty.unwalked NotAChain c.walk.result p.1 p.2 v n w.unwalked-is in
           let some = eqb-false _ _ (sym w.if-is_empty.ensures) in
-          rw is (some_no_chain (legs_of s) (snapshot_charted s) ends.from ends.to ks none (omega arith))
+          rw is (some_no_chain (snapshot_legs s) (snapshot_is_chart s) ends.from ends.to ks none (omega arith))
     ]
 
 pub returns-in_err-onward : goal.returns-in_err-onward
 returns-in_err-onward c =
-    let legs = legs_of c.args.snapshot.now in
+    let legs = snapshot_legs c.args.snapshot.now in
     let w = c.in_ok-walked.walked in
     let walk = (rw c.in_ok-walked.ensures.ok_part at c.walk.ensures).1.walk in
     let nothing = rw c.in_err-onward.ensures.ok_part at c.least_onward.ensures in
@@ -40,7 +40,7 @@ returns-in_err-onward c =
     let v = c.in_err-onward.ensures.value in
     let n = c.in_err-onward.ensures.ok_part in
     let is : c.from_residual-in_err-onward.result ≡ Err NoRoute = cc (p.1, p.2, v, n) in
-    rw is ((w.end, walk.chain), none_begins legs c.args.ends.from c.args.ends.to c.args.chain.now w.end w.used walk nothing)
+    rw is ((w.end, walk.chain), no_route_extends legs c.args.ends.from c.args.ends.to c.args.chain.now w.end w.used walk nothing)
 
 pub overflow_add-result : goal.overflow_add-result
 overflow_add-result c =
@@ -48,20 +48,20 @@ overflow_add-result c =
     let w = c.in_ok-walked.walked in
     let walked = (rw c.in_ok-walked.ensures.ok_part at c.walk.ensures) in
     let onward = rw c.in_ok-onward.ensures.ok_part at c.least_onward.ensures in
-    let small = nearest_small (legs_of s) c.args.ends.from c.args.ends.to c.args.chain.now w.end w.used walked.1.walk c.in_ok-onward.onward onward (snapshot_charted s) walked.0 w.high walked.1.sums in
+    let small = least_extension_small (snapshot_legs s) c.args.ends.from c.args.ends.to c.args.chain.now w.end w.used walked.1.walk c.in_ok-onward.onward onward (snapshot_is_chart s) walked.0 w.high walked.1.sums in
     omega arith
 
 -- where all three calls found something
-found : (c : goal.In_ok-braced) → (c.in_ok-braced.braced ≤ c.in_ok-walked.walked.high + c.in_ok-onward.onward) × FloorAnswer (trip (legs_of c.args.snapshot.now) c.args.ends.from c.args.ends.to) c.args.chain.now (Ok (c.in_ok-walked.walked.high + c.in_ok-onward.onward - c.in_ok-braced.braced))
+found : (c : goal.In_ok-choice_time) → (c.in_ok-choice_time.choice_time ≤ c.in_ok-walked.walked.high + c.in_ok-onward.onward) × FloorAnswer (query (snapshot_legs c.args.snapshot.now) c.args.ends.from c.args.ends.to) c.args.chain.now (Ok (c.in_ok-walked.walked.high + c.in_ok-onward.onward - c.in_ok-choice_time.choice_time))
 found c =
-    let legs = legs_of c.args.snapshot.now in
+    let legs = snapshot_legs c.args.snapshot.now in
     let ends = c.args.ends in
     let w = c.in_ok-walked.walked in
     let ks = c.args.chain.now in
     let along = (rw c.in_ok-walked.ensures.ok_part at c.walk.ensures).1 in
     let onward = rw c.in_ok-onward.ensures.ok_part at c.least_onward.ensures in
-    let braced = rw c.in_ok-braced.ensures.ok_part at (c.braced_time.ensures ks along) in
-    floor_found legs ends.from ends.to ks w along c.in_ok-onward.onward onward c.in_ok-braced.braced braced
+    let choice_time = rw c.in_ok-choice_time.ensures.ok_part at (c.floor_choice_time.ensures ks along) in
+    floor_found legs ends.from ends.to ks w along c.in_ok-onward.onward onward c.in_ok-choice_time.choice_time choice_time
 
 pub overflow_sub-result : goal.overflow_sub-result
 overflow_sub-result c = let below = (found c).0 in omega arith

@@ -1,19 +1,11 @@
-use Rattle.std.proofs.Common.{refl, arith}
-use Rattle.chart.specs.Regret.{trip}
-use Rattle.chart.proofs.Within.{route_leaves_fix}
-use Rattle.search.specs.Snapshots.{legs_of}
-use Rattle.search.specs.Sound.{snapshot_charted}
-use Rattle.least.proofs.Finding.{ready_first, least_of}
+use Rattle.std.proofs.Common.{arith}
+use Rattle.chart.proofs.RouteEnds.{route_leaves_fix}
+use Rattle.search.specs.Snapshots.{snapshot_legs}
+use Rattle.search.specs.laws.SnapshotLaws.{snapshot_is_chart}
 use Rattle.least.proofs.routes.find.Goals as goal
 
 pub returns-then-ends-n : goal.returns-then-ends-n
-returns-then-ends-n c q flies =
+returns-then-ends-n c q is_route =
     let s = c.args.snapshot.now in
-    let leaves = route_leaves_fix (legs_of s) (snapshot_charted s) c.args.ends.from c.args.ends.to q flies in
+    let leaves = route_leaves_fix (snapshot_legs s) (snapshot_is_chart s) c.args.ends.from c.args.ends.to q is_route in
     omega (arith, c.if-ends-n.true, c.n.ensures)
-
-pub explore-requires : goal.explore-requires
-explore-requires c = ready_first _ (omega (arith, c.if-ends-n.false, c.n.ensures)) c.new.ensures refl refl
-
-pub returns : goal.returns
-returns c = least_of (trip (legs_of c.args.snapshot.now) c.args.ends.from c.args.ends.to) c.explore.new.self.best (rw c.new.ensures at c.explore.ensures.swept)

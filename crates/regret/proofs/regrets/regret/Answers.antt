@@ -1,5 +1,5 @@
-use Rattle.regret.proofs.Present.{every_route_has_a_regret, regret_is_never_exceeded}
-use Rattle.regret.proofs.Worsts.{worst_choice_gives_regret, regret_is_unique}
+use Rattle.regret.proofs.EveryRouteHasRegret.{every_route_has_a_regret, regret_is_never_exceeded}
+use Rattle.regret.proofs.WorstChoice.{worst_choice_gives_regret, regret_is_unique}
 use Rattle.regret.proofs.regrets.regret.Goals as goal
 
 pub returns-clause-worst_choice : goal.returns-clause-worst_choice

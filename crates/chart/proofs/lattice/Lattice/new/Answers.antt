@@ -3,13 +3,13 @@ use lib.ListN.{length-replicate}
 use Rattle.chart.specs.Limits.{max_steps}
 use Rattle.chart.specs.Grid.{no_step}
 use Rattle.chart.specs.Lattices.{lattice_legs}
-use Rattle.chart.proofs.Grids.{copied_timed, lattice_back, grid_numbered}
+use Rattle.chart.proofs.LatticeLegs.{copied_steps_valid, lattice_gives_grid_back, grid_has_numbers}
 use Rattle.chart.proofs.lattice.Lattice.new.Goals as goal
 
 pub invariant_of-result : goal.invariant_of-result
 invariant_of-result c =
-    let shaped = c.if-not-is_shaped.ensures in
-    let timed = copied_timed c.args.steps.now c.copy_steps.new.all _ c.copy_steps.ensures c.if-not-are_timed.ensures in
+    let shaped = c.if-not-is_grid_shape.ensures.0 refl in
+    let timed = copied_steps_valid c.args.steps.now c.copy_steps.new.all _ c.copy_steps.ensures (c.if-not-are_valid.ensures.0 refl) in
     record {
       some = shaped.some_rows;
       few = shaped.few_rows;
@@ -24,11 +24,11 @@ invariant_of-result c =
 pub returns : goal.returns
 unfolding lattice_legs
 returns c =
-    let shaped = c.if-not-is_shaped.ensures in
+    let shaped = c.if-not-is_grid_shape.ensures.0 refl in
     record {
       means_the_grid = (
         refl,
-        lattice_back c.args.rows c.args.columns c.args.top c.args.steps.now c.copy_steps.new.all shaped c.if-top-gt-MAX_LEVEL.false c.if-not-are_timed.ensures c.copy_steps.ensures,
+        lattice_gives_grid_back c.args.rows c.args.columns c.args.top c.args.steps.now c.copy_steps.new.all shaped c.if-top-gt-MAX_LEVEL.false (c.if-not-are_valid.ensures.0 refl) c.copy_steps.ensures,
       );
-      numbers_every_leg_of_the_grid = grid_numbered c.args.rows c.args.columns shaped.some_rows;
+      numbers_every_leg_of_the_grid = grid_has_numbers c.args.rows c.args.columns shaped.some_rows;
     }

@@ -4,4 +4,4 @@ use Rattle.chart.proofs.table.Table.new.Goals as goal
 
 pub returns : goal.returns
 unfolding table_legs
-returns c = record { over = refl; empty = (omega arith, refl) }
+returns c = record { keeps_rows = refl; empty = (omega arith, refl) }

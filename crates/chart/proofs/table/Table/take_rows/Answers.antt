@@ -1,10 +1,10 @@
 use Rattle.std.proofs.Common.{refl}
 use Rattle.chart.specs.Tables.{table_legs}
-use Rattle.chart.proofs.RowLegs.{taken_back}
+use Rattle.chart.proofs.LegsOfRows.{taken_rows_given_back}
 use Rattle.chart.proofs.table.Table.take_rows.Goals as goal
 
 pub returns : goal.returns
 unfolding table_legs
 returns c =
     let ok = c.in_ok-count.ensures in
-    record { over = refl; takes_exactly_its_rows = (refl, taken_back c.args.n c.in_ok-count.count c.args.self.now.rows.now ok.0 ok.2) }
+    record { keeps_rows = refl; takes_exactly_its_rows = (refl, taken_rows_given_back c.args.n c.in_ok-count.count c.args.self.now.rows.now ok.0 ok.2) }

@@ -1,11 +1,11 @@
 use Rattle.std.proofs.Common.{◌≡◌, length}
-use Rattle.records.specs.Checks.{body, legs_in}
-use Rattle.reader.specs.Places.{Naming}
+use Rattle.chart_format.specs.Checks.{body, legs_in}
+use Rattle.reader.specs.internal.ReadingStates.{AfterNames}
 use Rattle.reader.proofs.cursor.Cursor.read_fixes.Given as goal
 
 abbrev pub invariant-loop : goal.invariant-loop
 invariant-loop l = record {
   same_file : l.self.file ≡ l.initial.self.file;
-  naming : Naming l.initial.self.file.now l.self.place l.fixes (legs_in (body l.initial.self.file.now)) l.starts.items;
+  after_names : AfterNames l.initial.self.file.now l.self.place l.fixes (legs_in (body l.initial.self.file.now)) l.starts.items;
   count : length l.starts.items ≡ l.counter;
 }

@@ -1,14 +1,14 @@
 use Rattle.std.proofs.Common.{◌∙◌, sym, ap, subst, rules}
-use Rattle.search.specs.Index.{left_from, IsLeg}
-use Rattle.search.specs.Snapshots.{legs_of}
-use Rattle.search.proofs.Leaving.{left_turn}
+use Rattle.search.specs.internal.Index.{legs_left_from, IsLeg}
+use Rattle.search.specs.Snapshots.{snapshot_legs}
+use Rattle.search.proofs.LegsLeaving.{left_from_unfolds}
 use Rattle.search.proofs.legs_from.LegsFromIterator.next.Goals as goal
 
 pub returns-clause-steps : goal.returns-clause-steps
 returns-clause-steps c =
-    let legs = legs_of c.self.inside.snapshot.now in
+    let legs = snapshot_legs c.self.inside.snapshot.now in
     let there = subst (IsLeg legs) c.in_ok-k.was c.self.invariant in
-    sym c.self.view_is ∙ ap (left_from legs) c.in_ok-k.was ∙ left_turn legs c.in_ok-k.k c.next_leg-self-inside.result there c.next_leg-self-inside.ensures
+    sym c.self.view_is ∙ ap (legs_left_from legs) c.in_ok-k.was ∙ left_from_unfolds legs c.in_ok-k.k c.next_leg-self-inside.result there c.next_leg-self-inside.ensures
 
 pub returns-clause-goes : goal.returns-clause-goes
 returns-clause-goes c = let steps = returns-clause-steps c in search rules

@@ -1,5 +1,5 @@
 use Rattle.std.proofs.Common.{arith}
-use Rattle.search.proofs.Leaving.{snapshot_first, no_leg_leaves}
+use Rattle.search.proofs.LegsLeaving.{snapshot_first, no_leg_leaves}
 use Rattle.search.proofs.snapshot.Snapshot.first_leg.Goals as goal
 
 pub returns-then-fix-self : goal.returns-then-fix-self

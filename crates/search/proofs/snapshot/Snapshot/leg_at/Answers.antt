@@ -1,5 +1,5 @@
 use Rattle.std.proofs.Common.{arith}
-use Rattle.search.proofs.Leaving.{snapshot_length, snapshot_at}
+use Rattle.search.proofs.LegsLeaving.{snapshot_length, snapshot_at}
 use Rattle.search.proofs.snapshot.Snapshot.leg_at.Goals as goal
 
 pub listed : goal.listed

@@ -1,4 +1,4 @@
-use Rattle.search.proofs.Leaving.{leaving_first}
+use Rattle.search.proofs.LegsLeaving.{leaving_first}
 use Rattle.search.proofs.snapshot.Snapshot.legs_from.Goals as goal
 
 pub returns : goal.returns

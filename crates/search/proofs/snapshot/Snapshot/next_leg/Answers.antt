@@ -1,5 +1,5 @@
 use Rattle.std.proofs.Common.{refl, arith}
-use Rattle.search.proofs.Leaving.{snapshot_length, snapshot_next}
+use Rattle.search.proofs.LegsLeaving.{snapshot_length, snapshot_next}
 use Rattle.search.proofs.snapshot.Snapshot.next_leg.Goals as goal
 
 pub returns-then-k-self : goal.returns-then-k-self

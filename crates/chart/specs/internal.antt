@@ -1,0 +1,2 @@
+-- How the code stands between two steps: no promise of a chart cites it.
+pub mod Steps

@@ -1,0 +1,6 @@
+pub mod Format
+pub mod Reports
+pub mod Words
+pub mod Checks
+pub mod Faults
+pub mod internal

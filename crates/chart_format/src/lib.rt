@@ -1,0 +1,11 @@
+// The records of a chart file: marks, bodies and faults, and what a whole file means or which fault it has.
+#![tactic(auto)]
+
+pub mod faults;
+pub mod input;
+pub mod record;
+pub mod sizes;
+
+pub use faults::{BytesFault, ChartFault, Fault, Layer, RecordFault, Report};
+pub use input::{Input, rest_from};
+pub use record::{Record, RecordKind, UnknownMark, row_in_body};

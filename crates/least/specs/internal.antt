@@ -1,0 +1,2 @@
+-- How the search stands between two steps.
+pub mod BranchAndBound

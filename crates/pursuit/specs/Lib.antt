@@ -1,0 +1,3 @@
+pub mod Rivals
+pub mod Pursuits
+pub mod internal

@@ -1,0 +1,2 @@
+-- What the code of a pursuit works on.
+pub mod Leads

@@ -1,0 +1,70 @@
+// What a file that is checked holds, by the places of its records: names, and legs into memory.
+ghost use Rattle.std.specs.Prelude.{◌≡◌, ◌+◌, ◌*◌, ◌≤◌, ◌↔◌, IsTrue, length, drop};
+ghost use Rattle.chart_format.specs.Format.{IsUnused, leg_record_length};
+ghost use Rattle.chart_format.specs.Checks.{body, name_in, leg_in};
+ghost use Rattle.reader.specs.internal.RecordPlaces.{HasFixBody, HaveFixBodies, names_at, legs_at};
+
+use arrayvec::ArrayVec;
+use chart::Row;
+use chart::limits::MAX_FIXES;
+use chart_format::sizes::{LEG_RECORD, LENGTH_BYTES, MARK_BYTES};
+use chart_format::{rest_from, row_in_body};
+
+/// How many fixes and legs a chart has.
+#[derive(Clone, Copy, Debug, PartialEq, Eq)]
+pub struct Counts {
+    pub fixes: u16,
+    pub legs: u16,
+}
+
+// What a file was found to hold: its counts, the places of the records of its names, and the place where the records of its
+// legs begin.
+#[derive(Drop)]
+pub(crate) struct FileIndex {
+    pub(crate) counts: Counts,
+    pub(crate) starts: ArrayVec<usize, MAX_FIXES>,
+    pub(crate) base: usize,
+}
+
+// The name in the fix record at a place.
+pub(crate) fn name_of_record(file: &[u8], at: usize) -> &[u8]
+    requires { HasFixBody file.now at }
+    ensures { result.now ≡ name_in (body (drop at file.now)) }
+{
+    let body = rest_from(rest_from(file, at), MARK_BYTES);
+    let len = body[0] as usize;
+    &body[LENGTH_BYTES..LENGTH_BYTES + len]
+}
+
+// Whether the name is none of those whose records stand at these places. With `all` in place of the loop it is not proved that
+// its closure may be called, since `name_of_record` requires that a record stands at the place.
+pub(crate) fn is_unused(file: &[u8], starts: &[usize], name: &[u8]) -> bool
+    requires { HaveFixBodies file.now starts.now }
+    ensures { IsTrue result ↔ IsUnused (names_at file.now starts.now) name.now }
+{
+    for at in starts {
+        if name_of_record(file, *at) == name {
+            return false;
+        }
+    }
+    true
+}
+
+// The leg whose record stands at a place.
+fn leg_of_record(file: &[u8], at: usize) -> Row
+    requires { at + leg_record_length ≤ length file.now }
+    ensures { result ≡ leg_in (body (drop at file.now)) }
+{
+    row_in_body(rest_from(rest_from(file, at), MARK_BYTES)).unwrap()
+}
+
+// Puts the legs whose records stand in the file from a place on into rows. With `zip` over `chunks_exact` in place of the index
+// nothing is known of the rows after the loop.
+pub(crate) fn fill(file: &[u8], base: usize, rows: &mut [Row])
+    requires { base + leg_record_length * length rows.old ≤ length file.now }
+    ensures { rows.new ≡ legs_at file.now base (length rows.old) }
+{
+    for (k, row) in rows.iter_mut().enumerate() {
+        *row = leg_of_record(file, base + LEG_RECORD * k);
+    }
+}

@@ -1,6 +1,0 @@
-use Rattle.std.proofs.Common.{◌≡◌, length, take}
-use Rattle.search.specs.Index.{taken}
-use Rattle.search.proofs.taking.copy_legs.Given as goal
-
-abbrev pub invariant-loop-k : goal.invariant-loop-k
-invariant-loop-k g l = (length l.legs ≡ length (g.C.Chart.legs l.chart)) × (taken l.k l.legs ≡ take l.k (g.C.Chart.legs l.chart))

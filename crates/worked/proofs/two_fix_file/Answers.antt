@@ -1,5 +1,0 @@
-use Rattle.std.proofs.Common.{refl}
-use Rattle.worked.proofs.two_fix_file.Goals as goal
-
-pub returns : goal.returns
-returns c = refl

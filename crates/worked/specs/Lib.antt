@@ -1,4 +1,0 @@
-pub mod FourFix
-pub mod Amended
-pub mod TwoFix
-pub mod Worked

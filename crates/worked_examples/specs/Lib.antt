@@ -1,0 +1,4 @@
+pub mod FourFix
+pub mod FourFixPlan
+pub mod TwoFix
+pub mod AllExamples
