@@ -28,7 +28,7 @@ static bool best(const Chart& c, uint16_t departure, uint16_t destination, Quick
         int u = NONE;
         for (int v = 0; v < c.n; ++v)
             if (state[v] == 1 && (u == NONE || better(label[v], label[u]))) u = v;
-        if (u == NONE) break;
+        if (u == NONE || u == destination) break;
         state[u] = 2;
         for (int k = first[u]; k != NONE; k = next[k]) {
             const Leg& l = c.legs[k];

@@ -20,11 +20,11 @@ static const int32_t FAR = 1'000'000'000;
 class Search {
 public:
     Search(const Chart& chart, Ends ends)
-        : chart(chart), ends(ends), out(chart.fixes), place(chart.fixes, 0), leads(chart.fixes * chart.fixes, 0),
+        : chart(chart), ends(ends), out(chart.fixes), place(chart.fixes, 0), margins(chart.fixes * chart.fixes, 0),
           own(chart.legs.size(), false), time(chart.fixes, FAR), done(chart.fixes, false) {
         index();
         put_in_order();
-        fill_leads();
+        fill_margins();
     }
 
     void run() { explore(ends.from); }
@@ -38,14 +38,14 @@ private:
     std::vector<std::vector<uint16_t>> out; // for each fix the legs that leave it
     std::vector<int> order;                 // every leg leads to a later fix
     std::vector<int> place;                 // where in the order a fix stands
-    std::vector<int32_t> leads;             // for each fix of the route one row, for each fix of the rival one column
+    std::vector<int32_t> margins;           // for each fix of the route one row, for each fix of the rival one column
     std::vector<uint16_t> chain;
     std::vector<uint8_t> own; // whether a leg is on the chain
     int32_t high = 0;         // the high times of the chain together
     std::vector<int32_t> time;
     std::vector<uint8_t> done;
 
-    int32_t& lead(int a, int b) { return leads[a * chart.fixes + b]; }
+    int32_t& margin(int a, int b) { return margins[a * chart.fixes + b]; }
 
     // No route enters its departure or leaves its destination.
     void index() {
@@ -71,14 +71,14 @@ private:
     // The route moves, which is behind: it takes the least of its ways on.
     int32_t route_moves(int a, int b) {
         int32_t least = FAR;
-        for (int e : out[a]) least = std::min(least, chart.legs[e].high + lead(chart.legs[e].to, b));
+        for (int e : out[a]) least = std::min(least, chart.legs[e].high + margin(chart.legs[e].to, b));
         return least;
     }
 
     // The rival moves, which is behind: it takes the best of its ways on.
     int32_t rival_moves(int a, int b) {
         int32_t most = -FAR;
-        for (int f : out[b]) most = std::max(most, lead(a, chart.legs[f].to) - chart.legs[f].low);
+        for (int f : out[b]) most = std::max(most, margin(a, chart.legs[f].to) - chart.legs[f].low);
         return most;
     }
 
@@ -88,15 +88,15 @@ private:
         for (int e : out[a]) {
             int32_t most = -FAR;
             for (int f : out[a]) {
-                const Leg& reply = chart.legs[f];
-                most = std::max(most, lead(chart.legs[e].to, reply.to) - (f == e ? reply.high : reply.low));
+                const Leg& counter = chart.legs[f];
+                most = std::max(most, margin(chart.legs[e].to, counter.to) - (f == e ? counter.high : counter.low));
             }
             least = std::min(least, chart.legs[e].high + most);
         }
         return least;
     }
 
-    int32_t next_lead(int a, int b) {
+    int32_t next_margin(int a, int b) {
         if (a == b) return a == ends.to ? 0 : both_move(a);
         if (place[b] < place[a]) return b == ends.to ? FAR : rival_moves(a, b);
         return a == ends.to ? -FAR : route_moves(a, b);
@@ -104,11 +104,11 @@ private:
 
     // By how much the route, from the fix `a` on, at least loses to a rival from the fix `b` on, which sees where the route
     // is. Where the route has no way on it is FAR, and where the rival has none −FAR.
-    void fill_leads() {
+    void fill_margins() {
         for (int i = chart.fixes - 1; i >= 0; --i)
             for (int j = chart.fixes - 1; j >= 0; --j) {
                 int a = order[i], b = order[j];
-                lead(a, b) = std::clamp(next_lead(a, b), -FAR, FAR);
+                margin(a, b) = std::clamp(next_margin(a, b), -FAR, FAR);
             }
     }
 
@@ -136,7 +136,7 @@ private:
         int32_t most = -FAR;
         for (int i = place[here]; i < chart.fixes; ++i) {
             int b = order[i];
-            int32_t ahead = lead(here, b);
+            int32_t ahead = margin(here, b);
             if (time[b] == FAR || ahead == -FAR) continue;
             if (ahead == FAR) return FAR;
             most = std::max(most, high - time[b] + ahead);
@@ -152,7 +152,7 @@ private:
             int u = -1;
             for (int v = 0; v < chart.fixes; ++v)
                 if (!done[v] && time[v] < FAR && (u < 0 || time[v] < time[u])) u = v;
-            if (u < 0) return high - time[ends.to];
+            if (u < 0 || u == ends.to) return high - time[ends.to];
             done[u] = true;
             take_legs(u);
         }

@@ -28,6 +28,14 @@ pub in_append_left : (xs ys : List ℕ) (x : ℕ) → IsIn x xs → IsIn x (xs +
 in_append_left [] ys x i = absurd i
 in_append_left (z ∷ zs) ys x i = ⊎_elim inl (λ j. inr (in_append_left zs ys x j)) i
 
+pub in_append_right : (us vs : List ℕ) (v : ℕ) → IsIn v vs → IsIn v (us ++ vs)
+in_append_right [] vs v i = i
+in_append_right (u ∷ us) vs v i = grind (arith, in_append_right us vs v)
+
+pub in_append : (us vs : List ℕ) (v : ℕ) → IsIn v (us ++ vs) → IsIn v us ⊎ IsIn v vs
+in_append [] vs v i = inr i
+in_append (u ∷ us) vs v i = grind (arith, in_append us vs v)
+
 pub in_middle : (xs : List ℕ) (y : ℕ) (ys : List ℕ) → IsIn y (xs ++ y ∷ ys)
 in_middle [] y ys = inl refl
 in_middle (x ∷ xs) y ys = inr (in_middle xs y ys)
@@ -44,6 +52,16 @@ in_push (z ∷ zs) x y i = ⊎_elim (λ e. inl (inl e)) (λ j. ⊎_elim (λ p. i
 pub no_repeats_push : (xs : List ℕ) (y : ℕ) → HasNoRepeats xs → (IsIn y xs → ⊥) → HasNoRepeats (xs ++ y ∷ [])
 no_repeats_push [] y d n = (n, tt)
 no_repeats_push (x ∷ xs) y d n = (λ i. ⊎_elim d.0 (λ e. n (inl (sym e))) (in_push xs x y i), no_repeats_push xs y d.1 (λ i. n (inr i)))
+
+-- the end of a chain is met
+pub end_in_chain : (legs : List Leg) (ks : List ℕ) (s z : ℕ) → Leads legs s ks z → IsIn z (fixes_of_chain legs s ks)
+end_in_chain legs [] s z e = inl (sym e)
+end_in_chain legs (k ∷ ks) s z l = inr (end_in_chain legs ks (leg_at legs k).to z l.1)
+
+-- no leg of a chain leaves its end
+pub left_not_end : (legs : List Leg) (ks : List ℕ) (s z : ℕ) → Leads legs s ks z → HasNoRepeats (fixes_of_chain legs s ks) → (k : ℕ) → IsIn k ks → (leg_at legs k).from ≡ z → ⊥
+left_not_end legs [] s z l d k i e = i
+left_not_end legs (m ∷ ms) s z l d k i e = grind (arith, left_not_end legs ms (leg_at legs m).to z l.1 d.1 k, end_in_chain legs ms (leg_at legs m).to z l.1)
 
 module _ (legs : List Leg) (s : ℕ) (ks : List ℕ) (k : ℕ) where
   pub in_chain_push : (x : ℕ) → IsIn x (fixes_of_chain legs s (ks ++ k ∷ [])) → IsIn x (fixes_of_chain legs s ks) ⊎ (x ≡ (leg_at legs k).to)

@@ -23,3 +23,8 @@ pub record IsBest {T : Type 0} (rule : Rule T) (legs : List Leg) (s t : ℕ) (x 
 abbrev pub BestTotal : {T : Type 0} → Rule T → List Leg → ℕ → ℕ → Option T → Type 0
 BestTotal rule legs s t None = (ks : List ℕ) → IsRouteBetween legs s t ks → ⊥
 BestTotal rule legs s t (Some x) = IsBest rule legs s t x
+
+-- there is one best total at most, and none beside one
+abbrev pub BestTotalIsUnique : {T : Type 0} → Rule T → Type 0
+BestTotalIsUnique {T = T} rule = (legs : List Leg) (s t : ℕ) (x y : Option T) →
+    BestTotal rule legs s t x → BestTotal rule legs s t y → x ≡ y

@@ -38,8 +38,8 @@ pub record IsLeastExtension (t : Query) (ks : List ℕ) (a : ℕ) : Type 0 where
   pub takes : time (highs t.legs) by ≡ a
   pub least : (r : List ℕ) → IsRoute t r → IsPrefix ks r → a ≤ time (highs t.legs) r
 
--- the floor of ks is x: a less b, where b is the least total of any route when shut legs take
--- their low and all others their high time
+-- the floor of ks is x, which is a less b; b is the least time that some route has in the choice that is low on the
+-- shut legs and high elsewhere
 pub record IsFloor (t : Query) (ks : List ℕ) (x : ℕ) : Type 0 where
   pub a : ℕ
   pub b : ℕ

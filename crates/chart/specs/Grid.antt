@@ -1,14 +1,15 @@
 -- The legs of an ocean grid. A fix has the number column × rows + row. From each row of a column a leg leads to
 -- the same row of the next column and to each row beside it; the legs are numbered by step, then row, then turn.
-use Rattle.std.specs.Prelude.{◌≡◌, ℕ, ◌+◌, ◌-◌, ◌*◌, ◌/◌, ◌%◌, ◌<◌, ◌≤◌, List, [], ◌∷◌, map, length, slice_index_or, refl}
+use Rattle.std.specs.Prelude.{◌≡◌, ℕ, ◌+◌, ◌-◌, ◌*◌, ◌/◌, ◌%◌, ◌<◌, ◌≤◌, ◌⊎◌, List, [], ◌∷◌, map, length, slice_index_or, refl, Result}
 use Rattle.std.specs.List.{range_with_len}
 use Rattle.chart.specs.declared.row.Row.{Row}
 use Rattle.chart.specs.declared.row.Standing.TheVariants.{Open}
 use Rattle.chart.specs.declared.interval.Interval.{Interval}
 use Rattle.chart.specs.declared.interval.Step.{Step}
 use Rattle.chart.specs.declared.refusals.LatticeRefusal.{LatticeRefusal}
-use Rattle.chart.specs.declared.refusals.LatticeRefusal.TheVariants.{BadGrid, BadTimes}
 use Rattle.chart.specs.Limits.{max_rows, max_columns, max_seconds, max_level}
+use Rattle.chart.specs.Refusals.{lattice_number}
+use Rattle.chart.specs.Outcomes.{Outcome, values, refused, outcome_by}
 
 -- what stands past the third turn, and past the last step
 abbrev pub no_interval : Interval
@@ -91,11 +92,22 @@ pub record HasValidGridTimes (top : ℕ) (steps : List Step) : Type 0 where
   pub level : top ≤ max_level
   pub intervals : AreValidSteps steps (length steps)
 
--- which refusal is owed to a lattice: its shape comes first, then its times and level
-abbrev pub LatticeRefused : (rows columns top : ℕ) → List Step → LatticeRefusal → Type 0
-LatticeRefused rows columns top steps BadGrid = IsGridShape rows columns (length steps) → ⊥
-LatticeRefused rows columns top steps BadTimes =
-    IsGridShape rows columns (length steps) × (HasValidGridTimes top steps → ⊥)
+-- the number that a lattice is refused with: its shape comes first, then its times and level
+abbrev pub LatticeRefused : (rows columns top : ℕ) → List Step → ℕ → Type 0
+LatticeRefused rows columns top steps number =
+    ((number ≡ 16) × (IsGridShape rows columns (length steps) → ⊥))
+    ⊎ ((number ≡ 8) × IsGridShape rows columns (length steps) × (HasValidGridTimes top steps → ⊥))
+
+-- what is answered where a lattice is to be made: no value but the lattice itself, or the number of the refusal
+abbrev pub lattice_outcome : {L : Type 0} → Result L LatticeRefusal → Outcome
+lattice_outcome = outcome_by (λ _. []) lattice_number
+
+-- the outcome of a grid as a lattice
+abbrev pub IsLatticeOutcome : (rows columns top : ℕ) → List Step → Outcome → Type 0
+IsLatticeOutcome rows columns top steps (values []) =
+    IsGridShape rows columns (length steps) × HasValidGridTimes top steps
+IsLatticeOutcome rows columns top steps (refused number) = LatticeRefused rows columns top steps number
+IsLatticeOutcome rows columns top steps _ = ⊥
 
 -- the step s, the row r and the turn at the place t are those of a leg of the grid, which has the number k
 pub record HasNumber (rows columns s r t k : ℕ) : Type 0 where

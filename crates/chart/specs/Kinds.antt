@@ -15,8 +15,8 @@ pub record Rule (T : Type 0) : Type 1 where
   pub add : T → ℕ → Leg → T
   pub order : T → T → Type 0
 
--- The laws of a kind: any two totals compare; the order is transitive; two totals that are each as good as
--- the other are equal; adding one leg to both keeps the order; adding a leg never betters a total.
+-- The laws of a kind. Its order is total, transitive and antisymmetric. To add one leg on both sides keeps the order,
+-- and a total is as good as what a further leg makes of it.
 pub record Laws {T : Type 0} (r : Rule T) : Type 0 where
   pub compares : (a b : T) → r.order a b ⊎ r.order b a
   pub transitive : (a b c : T) → r.order a b → r.order b c → r.order a c
@@ -64,7 +64,7 @@ seconds_rule c = record { start = 0; add = λ t k l. t + c k l; order = λ a b. 
 abbrev pub IsSooner : QuickestTotal → QuickestTotal → Type 0
 IsSooner a b = (a.seconds < b.seconds) ⊎ ((a.seconds ≡ b.seconds) × (a.legs ≤ b.legs))
 
--- high-time seconds and the number of legs add up side by side
+-- each leg adds its high time to the seconds, and one to the legs
 abbrev pub quickest_rule : Rule QuickestTotal
 quickest_rule = record {
   start = record { seconds = 0; legs = 0 };
@@ -72,6 +72,6 @@ quickest_rule = record {
   order = IsSooner;
 }
 
--- level starts at the highest, becomes the smaller of itself and the leg's top, and higher is better
+-- a level is the lowest top of the legs, and the highest level where there is none of them; higher is better
 abbrev pub level_rule : Rule ℕ
 level_rule = record { start = max_level; add = λ t k l. min t l.top; order = λ a b. b ≤ a }

@@ -1,6 +1,7 @@
 pub mod Limits
 pub mod Legs
 pub mod Refusals
+pub mod Outcomes
 pub mod Rows
 pub mod Routes
 pub mod Kinds

@@ -17,7 +17,7 @@ query legs source destination = record { legs = legs; source = source; destinati
 abbrev pub IsRoute : Query → List ℕ → Type 0
 IsRoute t ks = IsRouteBetween t.legs t.source t.destination ks
 
--- the choice c gives every leg a time from its low to its high
+-- c is a choice of times: the time of each leg lies between its low and its high
 abbrev pub IsChoice : List Leg → (ℕ → ℕ) → Type 0
 IsChoice legs c = (k : ℕ) → k < length legs → ((leg_at legs k).low ≤ c k) × (c k ≤ (leg_at legs k).high)
 

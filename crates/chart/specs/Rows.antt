@@ -1,5 +1,5 @@
 -- Which rows of plain numbers are legs of a chart, and when a table refuses its rows.
-use Rattle.std.specs.Prelude.{◌≡◌, ℕ, ◌<◌, ◌≤◌, ◌⊎◌, List, length, ◌≢◌, slice_index_or}
+use Rattle.std.specs.Prelude.{◌≡◌, ℕ, ◌<◌, ◌≤◌, ◌⊎◌, List, [], length, ◌≢◌, slice_index_or, Result}
 use Rattle.std.proofs.Common.{inl, inr}
 use Rattle.std.proofs.Math.Decide.{dec_le}
 use Rattle.std.proofs.lemmas.Bool.{cases_eq}
@@ -7,11 +7,11 @@ use Rattle.chart.specs.declared.row.Row.{Row}
 use Rattle.chart.specs.declared.row.Standing.TheVariants.{Open}
 use Rattle.chart.specs.declared.leg.Leg.{Leg}
 use Rattle.chart.specs.declared.refusals.RowRefusal.{RowRefusal}
-use Rattle.chart.specs.declared.refusals.RowRefusal.TheVariants.{BadTimes, BadFixes}
 use Rattle.chart.specs.declared.refusals.TableRefusal.{TableRefusal}
-use Rattle.chart.specs.declared.refusals.TableRefusal.TheVariants.{BadCounts, BadRow}
 use Rattle.chart.specs.Limits.{min_fixes, max_fixes, max_legs, max_seconds, max_level}
 use Rattle.chart.specs.Legs.{no_leg}
+use Rattle.chart.specs.Refusals.{row_number, table_number}
+use Rattle.chart.specs.Outcomes.{Outcome, values, refused, outcome_by}
 
 -- the numbers of a leg
 abbrev pub row_of_leg : Leg → Row
@@ -34,10 +34,21 @@ pub record IsValidRow (n : ℕ) (r : Row) : Type 0 where
   pub valid_times : HasValidTimes r
   pub valid_fixes : HasValidFixes n r
 
--- which refusal is owed to a row: its times and level come first, then its fixes
-abbrev pub RowRefused : ℕ → Row → RowRefusal → Type 0
-RowRefused n r BadTimes = HasValidTimes r → ⊥
-RowRefused n r BadFixes = HasValidTimes r × (HasValidFixes n r → ⊥)
+-- the number that a row is refused with as a leg of a chart with n fixes: times and level come first, then fixes
+abbrev pub RowRefused : ℕ → Row → ℕ → Type 0
+RowRefused n r number =
+    ((number ≡ 8) × (HasValidTimes r → ⊥))
+    ⊎ ((number ≡ 7) × HasValidTimes r × (HasValidFixes n r → ⊥))
+
+-- what is answered where a leg is to be made of a row: no value but the leg itself, or the number of the refusal
+abbrev pub row_outcome : Result Leg RowRefusal → Outcome
+row_outcome = outcome_by (λ _. []) row_number
+
+-- the outcome of a row as a leg of a chart with n fixes
+abbrev pub IsRowOutcome : ℕ → Row → Outcome → Type 0
+IsRowOutcome n r (values []) = IsValidRow n r
+IsRowOutcome n r (refused number) = RowRefused n r number
+IsRowOutcome n r _ = ⊥
 
 -- what stands past the end of a list of rows
 abbrev pub no_row : Row
@@ -57,17 +68,29 @@ pub record HasValidCounts (n m : ℕ) : Type 0 where
 abbrev pub AreValidRows : ℕ → List Row → ℕ → Type 0
 AreValidRows n rows m = (k : ℕ) → k < m → IsValidRow n (row_at rows k)
 
--- the first row that is no leg is owed the refusal e
-pub record FirstRowRefused (n : ℕ) (rows : List Row) (e : RowRefusal) : Type 0 where
+-- the first row that is no leg is refused with the number
+pub record FirstRowRefused (n : ℕ) (rows : List Row) (number : ℕ) : Type 0 where
   pub place : ℕ
   pub there : place < length rows
   pub before : AreValidRows n rows place
-  pub refused : RowRefused n (row_at rows place) e
+  pub refusal : RowRefused n (row_at rows place) number
 
--- which refusal is owed to rows as a table with n fixes: the counts come first, then the first bad row
-abbrev pub TableRefused : ℕ → List Row → TableRefusal → Type 0
-TableRefused n rows BadCounts = HasValidCounts n (length rows) → ⊥
-TableRefused n rows (BadRow e) = HasValidCounts n (length rows) × FirstRowRefused n rows e
+-- the number that rows are refused with as a table with n fixes: the counts come first, then the first row that is no
+-- leg, which is refused with 8 or 7
+abbrev pub TableRefused : ℕ → List Row → ℕ → Type 0
+TableRefused n rows number =
+    ((number ≡ 4) × (HasValidCounts n (length rows) → ⊥))
+    ⊎ (HasValidCounts n (length rows) × FirstRowRefused n rows number)
+
+-- what is answered where a table is to take rows: no value, or the number of the refusal
+abbrev pub table_outcome : {T : Type 0} → Result T TableRefusal → Outcome
+table_outcome = outcome_by (λ _. []) table_number
+
+-- the outcome of rows as a table with n fixes
+abbrev pub IsTableOutcome : ℕ → List Row → Outcome → Type 0
+IsTableOutcome n rows (values []) = HasValidCounts n (length rows) × AreValidRows n rows (length rows)
+IsTableOutcome n rows (refused number) = TableRefused n rows number
+IsTableOutcome n rows _ = ⊥
 
 -- the leg with the numbers of a row that are within a leg's limits
 abbrev pub leg_within : (r : Row) → (r.from ≢ r.to) → r.low ≤ r.high → r.high ≤ max_seconds → r.top ≤ max_level → Leg

@@ -1,4 +1,4 @@
-// Choices of times: each gives every leg a time from its low to its high.
+// Choices of times: in each, the time of a leg lies between its low and its high.
 ghost use Rattle.std.specs.Prelude.{◌≡◌, ℕ, ◌≤◌};
 ghost use Rattle.chart.specs.declared.leg.Leg.{Leg};
 ghost use Rattle.chart.specs.Kinds.{Times, IsBounded, high_times, low_times};

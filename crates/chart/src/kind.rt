@@ -21,7 +21,7 @@ pub trait Kind {
     /// The total of no legs.
     fn start(&self) -> Self::Total
         ensures value { result ≡ (rule self.now).start }
-        ensures lawful { Laws (rule self.now) }
+        ensures keeps_laws { Laws (rule self.now) }
         ensures compact { Compact Self.Total.row };
 
     /// The total with the leg `leg`, which has the number `k`, added. A total is only made of as

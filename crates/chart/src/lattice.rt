@@ -59,9 +59,9 @@ fn copy_steps(steps: &[Step], all: &mut [Step])
 }
 
 impl Lattice {
-    ghost use Rattle.std.specs.Prelude.{map, MatchResult, OnOk};
+    ghost use Rattle.std.specs.Prelude.{map, IfOk, OnOk};
     ghost use Rattle.chart.specs.Rows.{row_of_leg};
-    ghost use Rattle.chart.specs.Grid.{grid_legs, LatticeRefused, NumbersGrid};
+    ghost use Rattle.chart.specs.Grid.{grid_legs, lattice_outcome, IsLatticeOutcome, NumbersGrid};
     ghost use Rattle.chart.specs.Lattices.{lattice_fixes, lattice_legs};
 
     /// The lattice of a grid with `rows` rows and `columns` columns, the top level `top` in
@@ -70,10 +70,10 @@ impl Lattice {
     /// steps not one fewer than the columns; else as `BadTimes` (8) where the level is above 600 or
     /// an interval is not valid.
     pub fn new(rows: u16, columns: u16, top: u16, steps: &[Step]) -> Result<Lattice, LatticeRefusal>
-        ensures means_the_grid { MatchResult result
+        ensures outcome { IsLatticeOutcome rows columns top steps.now (lattice_outcome result) }
+        ensures means_the_grid { IfOk result
             (λ l. (lattice_fixes l ≡ columns * rows)
-            × (map row_of_leg (lattice_legs l) ≡ grid_legs rows columns top steps.now))
-            (λ e. LatticeRefused rows columns top steps.now e) }
+            × (map row_of_leg (lattice_legs l) ≡ grid_legs rows columns top steps.now)) }
         ensures numbers_every_leg_of_the_grid { OnOk result (NumbersGrid rows columns) }
     {
         if !is_grid_shape(rows, columns, steps.len()) {

@@ -1,6 +1,6 @@
 // A leg as plain numbers, before any check, and the checks that make a leg of it.
-ghost use Rattle.std.specs.Prelude.{◌≡◌, IsTrue, ◌↔◌, MatchResult, ◌≢◌};
-ghost use Rattle.chart.specs.Rows.{row_of_leg, HasValidTimes, HasValidFixes, RowRefused};
+ghost use Rattle.std.specs.Prelude.{◌≡◌, IsTrue, ◌↔◌, IfOk, ◌≢◌};
+ghost use Rattle.chart.specs.Rows.{row_of_leg, HasValidTimes, HasValidFixes, row_outcome, IsRowOutcome};
 
 use super::interval::Interval;
 use super::leg::Leg;
@@ -57,9 +57,8 @@ impl Row {
     /// level are outside their limits is refused as `BadTimes` (8); else one that does not join two
     /// different fixes of the chart is refused as `BadFixes` (7).
     pub fn leg(&self, n: u16) -> Result<Leg, RowRefusal>
-        ensures { MatchResult result
-            (λ l. (row_of_leg l ≡ self.now) × HasValidFixes n self.now)
-            (λ e. RowRefused n self.now e) }
+        ensures outcome { IsRowOutcome n self.now (row_outcome result) }
+        ensures has_its_numbers { IfOk result (λ l. row_of_leg l ≡ self.now) }
     {
         if !self.has_valid_times() {
             return Err(RowRefusal::BadTimes);

@@ -1,5 +1,6 @@
 // A chart over rows in the caller's memory, and how it takes them.
 ghost use Rattle.std.specs.Prelude.{◌≡◌, ℕ, ◌<◌, ◌≤◌, length, MatchResult, ◌≢◌};
+ghost use Rattle.chart.specs.Refusals.{row_number, table_number};
 ghost use Rattle.chart.specs.Limits.{min_fixes, max_fixes, max_legs, max_seconds, max_level};
 ghost use Rattle.chart.specs.Rows.{row_at, HasValidCounts, FirstRowRefused, TableRefused, AreValidRows};
 
@@ -37,7 +38,7 @@ pub struct Table<'a> {
 fn check_each(n: u16, rows: &[Row]) -> Result<(), RowRefusal>
     ensures { MatchResult result
         (λ _. AreValidRows n rows.now (length rows.now))
-        (λ e. FirstRowRefused n rows.now e) }
+        (λ e. FirstRowRefused n rows.now (row_number e)) }
 {
     for row in rows {
         let _leg = row.leg(n)?;
@@ -49,7 +50,7 @@ fn check_each(n: u16, rows: &[Row]) -> Result<(), RowRefusal>
 fn checked(n: u16, rows: &[Row]) -> Result<u16, TableRefusal>
     ensures { MatchResult result
         (λ m. (m ≡ length rows.now) × HasValidCounts n m × AreValidRows n rows.now m)
-        (λ e. TableRefused n rows.now e) }
+        (λ e. TableRefused n rows.now (table_number e)) }
 {
     if !are_valid_counts(n, rows.len()) {
         return Err(TableRefusal::BadCounts);
@@ -59,8 +60,8 @@ fn checked(n: u16, rows: &[Row]) -> Result<u16, TableRefusal>
 }
 
 impl<'a> Table<'a> {
-    ghost use Rattle.std.specs.Prelude.{[], map};
-    ghost use Rattle.chart.specs.Rows.{row_of_leg};
+    ghost use Rattle.std.specs.Prelude.{[], map, IfOk};
+    ghost use Rattle.chart.specs.Rows.{row_of_leg, table_outcome, IsTableOutcome};
     ghost use Rattle.chart.specs.Tables.{table_legs};
 
     /// A table over these rows that has taken none of them yet: two fixes and no legs.
@@ -78,9 +79,9 @@ impl<'a> Table<'a> {
     /// The table of a chart with `n` fixes that has every row for a leg. It is refused as
     /// `take_rows` is.
     pub fn of(n: u16, rows: &'a [Row]) -> Result<Table<'a>, TableRefusal>
-        ensures has_exactly_its_rows { MatchResult result
-            (λ t. (t.rows.now ≡ rows.now) × (t.fixes ≡ n) × (map row_of_leg (table_legs t) ≡ rows.now))
-            (λ e. TableRefused n rows.now e) }
+        ensures outcome { IsTableOutcome n rows.now (table_outcome result) }
+        ensures has_exactly_its_rows { IfOk result
+            (λ t. (t.rows.now ≡ rows.now) × (t.fixes ≡ n) × (map row_of_leg (table_legs t) ≡ rows.now)) }
     {
         let mut table = Table::new(rows);
         table.take_rows(n)?;
@@ -92,10 +93,11 @@ impl<'a> Table<'a> {
     /// refusal of the first row that is no leg of the chart (8 or 7). What is refused leaves the
     /// table as it was.
     pub fn take_rows(&mut self, n: u16) -> Result<(), TableRefusal>
+        ensures outcome { IsTableOutcome n self.old.rows.now (table_outcome result) }
         ensures keeps_rows { self.new.rows.now ≡ self.old.rows.now }
         ensures takes_exactly_its_rows { MatchResult result
             (λ _. (self.new.fixes ≡ n) × (map row_of_leg (table_legs self.new) ≡ self.old.rows.now))
-            (λ e. TableRefused n self.old.rows.now e × (self.new ≡ self.old)) }
+            (λ _. self.new ≡ self.old) }
     {
         let rows = self.rows;
         let count = checked(n, rows)?;

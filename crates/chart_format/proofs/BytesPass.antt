@@ -35,8 +35,8 @@ fix_bytes_pass names x r named unused =
     (omega arith, ((Fix, refl), (refl, ((omega arith, omega arith), (subst IsName (sym e) named, (subst (IsUnused names) (sym e) unused, tt))))))
 
 pub leg_bytes_pass : (n : ℕ) (leg : Row) (r : List ℕ) → IsValidRow n leg → leg.standing ≡ Open → Pass (leg_checks n (leg_bytes leg ++ r))
-leg_bytes_pass n leg r sound stands =
-    let e : leg_in (body (leg_bytes leg ++ r)) ≡ leg = leg_read_back leg stands r in
+leg_bytes_pass n leg r sound is_open =
+    let e : leg_in (body (leg_bytes leg ++ r)) ≡ leg = leg_read_back leg is_open r in
     (omega arith, ((Leg, refl), (refl, (omega arith, (subst HasValidTimes (sym e) sound.valid_times, (subst (HasValidFixes n) (sym e) sound.valid_fixes, tt))))))
 
 pub end_bytes_pass : (r : List ℕ) → Pass (end_checks (end_bytes ++ r))

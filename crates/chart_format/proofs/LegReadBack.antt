@@ -36,7 +36,7 @@ same_rows f t l l' h h' u u' s s' p q r e = cc
 
 -- an open leg from its bytes
 pub leg_read_back : (leg : Row) → leg.standing ≡ Open → (x : List ℕ) → leg_in (body (leg_bytes leg ++ x)) ≡ leg
-leg_read_back leg stands x = same_rows leg.from leg.to _ leg.low _ leg.high _ leg.top Open leg.standing (four_bytes_read_back leg.low) (four_bytes_read_back leg.high) (two_bytes_read_back leg.top) (sym stands)
+leg_read_back leg is_open x = same_rows leg.from leg.to _ leg.low _ leg.high _ leg.top Open leg.standing (four_bytes_read_back leg.low) (four_bytes_read_back leg.high) (two_bytes_read_back leg.top) (sym is_open)
 
 -- the k bytes from the place i on, one by one
 spelled : List ℕ → ℕ → ℕ → List ℕ

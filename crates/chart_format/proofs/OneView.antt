@@ -28,7 +28,7 @@ pub record SameView (xs ys : List Name) (ks ls : List Row) (o p : Verdict) : Typ
 -- a view never goes on with a name, or with a leg, where another ends
 module _ {file : List ℕ} {n m : ℕ} {ks ls : List Row} {r s : List ℕ} {o p : Verdict} where
   no_more_names : {xs ys : List Name} → View file n m xs ks r o → View file n m ys ls s p → Longer fix_bytes xs ys (flat_map leg_bytes ls ++ s) → ⊥
-  no_more_names {xs = xs} {ys = ys} v w more = no_end_at_name w.ends lt (subst (λ t. Pass (fix_checks ys t)) (sym begins) (fix_bytes_pass ys x more.after named unused))
+  no_more_names {xs = xs} {ys = ys} v w more = no_end_at_name w.ends lt (subst (λ t. Pass (fix_checks ys t)) (sym left_of_names) (fix_bytes_pass ys x more.after named unused))
     where
       x : Name
       x = more.item
@@ -39,8 +39,8 @@ module _ {file : List ℕ} {n m : ℕ} {ks ls : List Row} {r s : List ℕ} {o p 
       lt : length ys < n
       lt = omega (arith, longer, v.valid.names_fit)
 
-      begins : s ≡ fix_bytes x ++ more.after
-      begins = ap (λ zs. flat_map leg_bytes zs ++ s) (sym (nil_from_length ls (omega (arith, lt, w.names_first)))) ∙ more.bytes
+      left_of_names : s ≡ fix_bytes x ++ more.after
+      left_of_names = ap (λ zs. flat_map leg_bytes zs ++ s) (sym (nil_from_length ls (omega (arith, lt, w.names_first)))) ∙ more.bytes
 
       in_xs : (i : ℕ) → i < length ys → get_or xs i [] ≡ get_or ys i []
       in_xs i h = ap (λ zs. get_or zs i []) more.items ∙ get_or_append_left ys (x ∷ more.more) [] i h
@@ -56,7 +56,7 @@ module _ {file : List ℕ} {n m : ℕ} {ks ls : List Row} {r s : List ℕ} {o p 
 
   no_more_legs : {names : List Name} → View file n m names ks r o → View file n m names ls s p → Longer leg_bytes ks ls s → ⊥
   no_more_legs {names = names} v w more =
-      no_end_at_leg w.ends all (omega (arith, longer, v.valid.legs_fit)) (subst (λ t. Pass (leg_checks n t)) (sym more.bytes) (leg_bytes_pass n x more.after sound stands))
+      no_end_at_leg w.ends all (omega (arith, longer, v.valid.legs_fit)) (subst (λ t. Pass (leg_checks n t)) (sym more.bytes) (leg_bytes_pass n x more.after sound is_open))
     where
       x : Row
       x = more.item
@@ -73,8 +73,8 @@ module _ {file : List ℕ} {n m : ℕ} {ks ls : List Row} {r s : List ℕ} {o p 
       sound : IsValidRow n x
       sound = subst (IsValidRow n) there (v.valid.rows_valid (length ls) (omega (arith, longer)))
 
-      stands : x.standing ≡ Open
-      stands = ap (λ (z : Row). z.standing) (sym there) ∙ v.valid.legs_open (length ls) (omega (arith, longer))
+      is_open : x.standing ≡ Open
+      is_open = ap (λ (z : Row). z.standing) (sym there) ∙ v.valid.legs_open (length ls) (omega (arith, longer))
 
 -- the bytes of a record say where it ends
 fix_is_one : (a b : Name) (x y : List ℕ) → fix_bytes a ++ x ≡ fix_bytes b ++ y → (a ≡ b) × (x ≡ y)

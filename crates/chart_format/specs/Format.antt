@@ -3,6 +3,7 @@ use Rattle.std.specs.Prelude.{◌≡◌, ℕ, ◌+◌, ◌/◌, ◌%◌, ◌<◌
 use Rattle.std.specs.List.{flat_map}
 use Rattle.chart.specs.declared.row.Row.{Row}
 use Rattle.chart.specs.declared.row.Standing.TheVariants.{Open}
+use Rattle.chart.specs.Limits.{max_fixes}
 use Rattle.chart.specs.Rows.{HasValidCounts, AreValidRows, row_at}
 use Rattle.chart_format.specs.declared.record.RecordKind.{RecordKind}
 use Rattle.chart_format.specs.declared.record.RecordKind.TheVariants.{Chart, Fix, Leg, End}
@@ -87,6 +88,20 @@ pub record IsName (name : Name) : Type 0 where
 abbrev pub name_at : List Name → ℕ → Name
 name_at names i = slice_index_or names i []
 
+-- each of these is a name that a fix may have
+abbrev pub AreNames : List Name → Type 0
+AreNames names = (j : ℕ) → j < length names → IsName (name_at names j)
+
+-- no two of these names are equal
+abbrev pub AreDistinct : List Name → Type 0
+AreDistinct names = (i j : ℕ) → i < j → j < length names → name_at names i ≢ name_at names j
+
+-- fixes of a chart may have these names: they are no more than a chart has fixes, each is a name, and no two are equal
+pub record AreFixNames (names : List Name) : Type 0 where
+  pub few : length names ≤ max_fixes
+  pub valid : AreNames names
+  pub distinct : AreDistinct names
+
 -- the name is none of these
 abbrev pub IsUnused : List Name → Name → Type 0
 IsUnused names name = (i : ℕ) → i < length names → name_at names i ≢ name
@@ -96,8 +111,8 @@ pub record IsChartPrefix (n m : ℕ) (names : List Name) (legs : List Row) : Typ
   pub counts_valid : HasValidCounts n m
   pub names_fit : length names ≤ n
   pub legs_fit : length legs ≤ m
-  pub names_valid : (j : ℕ) → j < length names → IsName (name_at names j)
-  pub names_distinct : (i j : ℕ) → i < j → j < length names → name_at names i ≢ name_at names j
+  pub names_valid : AreNames names
+  pub names_distinct : AreDistinct names
   pub rows_valid : AreValidRows n legs (length legs)
   pub legs_open : (k : ℕ) → k < length legs → (row_at legs k).standing ≡ Open
 

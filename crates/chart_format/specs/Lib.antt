@@ -2,5 +2,6 @@ pub mod Format
 pub mod Reports
 pub mod Words
 pub mod Checks
+pub mod Bodies
 pub mod Faults
-pub mod internal
+pub mod laws

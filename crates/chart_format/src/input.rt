@@ -2,9 +2,9 @@
 ghost use Rattle.std.specs.Prelude.{◌≡◌, ◌+◌, ◌<◌, ◌≤◌, ◌++◌, ◌↔◌, IsTrue, length, take, drop, MatchResult};
 ghost use Rattle.chart_format.specs.Format.{IsNameByte, IsName, mark_length};
 ghost use Rattle.chart_format.specs.Reports.{bytes_report, record_report, chart_report, Fails};
-ghost use Rattle.chart_format.specs.Checks.{Pass, HasMark, body, mark_checks, kind_checks, body_checks, record_checks};
+ghost use Rattle.chart_format.specs.Checks.{Pass, HasMark, mark_checks, kind_checks, body_checks};
 ghost use Rattle.chart_format.specs.Checks.{chart_body_checks, fix_body_checks, leg_body_checks, fixes_in, legs_in, leg_in};
-ghost use Rattle.chart_format.specs.internal.Bodies.{IsBody, Says};
+ghost use Rattle.chart_format.specs.Bodies.{IsBody, Says};
 
 use super::faults::{BytesFault, ChartFault, RecordFault};
 use super::record::{Record, RecordKind, row_in_body};
@@ -49,11 +49,14 @@ impl<'a> Input<'a> {
             (λ e. Fails (mark_checks self.now.bytes.now) self.now.place (bytes_report e)) }
     {
         let Input { bytes, place } = *self;
-        // It is a rule of the project that a slice pattern takes the mark apart.
-        let [a, b, body @ ..] = bytes else {
-            return Err(BytesFault::Short { place });
+        let (kind, body) = match bytes {
+            [b'C', b'H', body @ ..] => (RecordKind::Chart, body),
+            [b'F', b'X', body @ ..] => (RecordKind::Fix, body),
+            [b'L', b'G', body @ ..] => (RecordKind::Leg, body),
+            [b'E', b'N', body @ ..] => (RecordKind::End, body),
+            [_, _, ..] => return Err(BytesFault::Unknown { place }),
+            _ => return Err(BytesFault::Short { place }),
         };
-        let kind = RecordKind::try_from([*a, *b]).map_err(|_| BytesFault::Unknown { place })?;
         Ok((kind, Input { bytes: body, place }))
     }
 
@@ -116,8 +119,6 @@ impl<'a> Input<'a> {
 
     /// The record of this kind in a body. It is refused where the body is not complete (fault 1), and then where the counts of a
     /// chart (fault 4), the name of a fix (fault 5), or the times or the level of a leg (fault 8) are outside their limits.
-    // Each kind has a body of its own, so the kind is matched; that what a record says is one enum, whose name is a part of the
-    // file itself, is a rule of the project.
     pub fn record(&self, kind: RecordKind) -> Result<Record<'a>, RecordFault>
         ensures { MatchResult result
             (λ x. Pass (body_checks kind self.now.bytes.now) × Says kind self.now.bytes.now x)
@@ -143,15 +144,5 @@ impl<'a> Input<'a> {
             return Err(ChartFault::OutOfPlace { place: self.place });
         }
         Ok(body)
-    }
-
-    /// The record whose mark these bytes begin with. It is refused as `expect_kind` is (faults 1 to 3), and then as `record` is
-    /// (faults 1, 4, 5 and 8).
-    pub fn expect_record(&self, kind: RecordKind) -> Result<Record<'a>, ChartFault>
-        ensures { MatchResult result
-            (λ x. Pass (record_checks kind self.now.bytes.now) × Says kind (body self.now.bytes.now) x)
-            (λ e. Fails (record_checks kind self.now.bytes.now) self.now.place (chart_report e)) }
-    {
-        Ok(self.expect_kind(kind)?.record(kind)?)
     }
 }

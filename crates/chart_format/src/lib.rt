@@ -8,4 +8,4 @@ pub mod sizes;
 
 pub use faults::{BytesFault, ChartFault, Fault, Layer, RecordFault, Report};
 pub use input::{Input, rest_from};
-pub use record::{Record, RecordKind, UnknownMark, row_in_body};
+pub use record::{Record, RecordKind, row_in_body};

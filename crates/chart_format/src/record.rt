@@ -1,9 +1,10 @@
 // The kinds of record that a chart file is made of, the two bytes that mark each, and what its body says.
-ghost use Rattle.std.specs.Prelude.{◌≡◌, ◌≢◌, ◌<◌, ◌≤◌, length, MatchOption, MatchResult};
-ghost use Rattle.chart_format.specs.declared.record.RecordKind.{RecordKind};
-ghost use Rattle.chart_format.specs.Format.{mark, leg_body_length};
+ghost use Rattle.std.specs.Prelude.{◌≡◌, ◌<◌, ◌≤◌, length, MatchOption};
+ghost use Rattle.chart_format.specs.Format.{leg_body_length};
 ghost use Rattle.chart_format.specs.Checks.{leg_in};
+ghost use Rattle.chart_format.specs.Bodies.{body_length};
 
+use super::sizes::{CHART_BODY, LEG_BODY, LENGTH_BYTES};
 use chart::{Row, Standing};
 
 /// A kind of record.
@@ -19,29 +20,6 @@ pub enum RecordKind {
     End,
 }
 
-/// The answer where no kind of record has a mark.
-#[derive(Clone, Copy, Debug, PartialEq, Eq)]
-pub struct UnknownMark;
-
-/// The kind of record that two bytes mark. It is refused with `UnknownMark` where they are the mark of none.
-impl TryFrom<[u8; 2]> for RecordKind {
-    type Error = UnknownMark;
-
-    ghost try_from_gives = { λ bytes r. MatchResult r
-        (λ k. mark k ≡ bytes)
-        (λ _. (k : RecordKind) → mark k ≢ bytes) };
-
-    fn try_from(bytes: [u8; 2]) -> Result<RecordKind, UnknownMark> {
-        match bytes {
-            [b'C', b'H'] => Ok(RecordKind::Chart),
-            [b'F', b'X'] => Ok(RecordKind::Fix),
-            [b'L', b'G'] => Ok(RecordKind::Leg),
-            [b'E', b'N'] => Ok(RecordKind::End),
-            _ => Err(UnknownMark),
-        }
-    }
-}
-
 /// What the body of a record says. The name of a fix is a part of the file itself.
 // The counts of a chart are two fields, since `Counts` is the reader's, which is above.
 #[derive(Clone, Copy, Debug, PartialEq, Eq)]
@@ -54,6 +32,20 @@ pub enum Record<'a> {
     Leg { row: Row },
     /// The end of the file.
     End,
+}
+
+impl Record<'_> {
+    /// How many bytes the body has that says this.
+    pub fn body_length(&self) -> usize
+        ensures { result ≡ body_length self.now }
+    {
+        match self {
+            Record::Chart { .. } => CHART_BODY,
+            Record::Fix { name } => LENGTH_BYTES + name.len(),
+            Record::Leg { .. } => LEG_BODY,
+            Record::End => 0,
+        }
+    }
 }
 
 /// The leg in a leg record's body, which is open; none where the body is not complete. Numbers of several bytes have the high

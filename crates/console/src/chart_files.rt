@@ -1,11 +1,14 @@
-// Where the paths of chart files lead: to the files below a folder, or to those that the program carries.
+// Where paths lead: to the files below a folder, or to those that the program carries.
 use std::alloc::AllocError;
 use std::fs;
 
-/// Where the paths of chart files lead.
+/// Where the paths of chart files and of pictures lead.
 pub trait Files: Drop {
     /// The bytes of the file at a path; none where it can't be read. An error is want of memory.
     fn fetch(&self, rt: &HostRuntime, path: &str) -> Result<Option<Vec<u8>>, AllocError>;
+
+    /// Stores the bytes as the file at a path, in place of one that is there; whether this could be done.
+    fn store(&self, rt: &HostRuntime, path: &str, bytes: &[u8]) -> bool;
 }
 
 /// Paths lead to the files below the working folder.
@@ -15,6 +18,10 @@ pub struct FolderFiles;
 impl Files for FolderFiles {
     fn fetch(&self, rt: &HostRuntime, path: &str) -> Result<Option<Vec<u8>>, AllocError> {
         Ok(fs::read(rt, path).ok())
+    }
+
+    fn store(&self, rt: &HostRuntime, path: &str, bytes: &[u8]) -> bool {
+        fs::write(rt, path, bytes).is_ok()
     }
 }
 
@@ -52,5 +59,10 @@ impl Files for BuiltInFiles {
         built_in_file(path)
             .map(|bytes| Vec::from_slice(rt.alloc(), bytes))
             .transpose()
+    }
+
+    // The program carries files, and takes none.
+    fn store(&self, _rt: &HostRuntime, _path: &str, _bytes: &[u8]) -> bool {
+        false
     }
 }

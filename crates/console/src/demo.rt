@@ -1,6 +1,7 @@
 // The demo that the program carries: a script, and what was done in it, told from its replies.
 use super::chart_files::BuiltInFiles;
-use super::session::{Session, reply_to_line};
+use super::replies::take_line;
+use super::session::Session;
 use protocol::{Answer, Command, Line, PlanCommand, Rejection, ReplyLine, Verb, parse_line};
 use std::alloc::{AllocError, Global};
 use std::fmt;
@@ -225,13 +226,13 @@ impl fmt::Display for Summary {
 /// Runs the demo: prints each command of its script with its reply, and at the end what was done. An error is one of output or of memory.
 pub fn show_demo(rt: &HostRuntime) -> anyhow::Result<()> {
     let alloc = rt.alloc();
-    let mut session = Session::new(alloc, BuiltInFiles)?;
+    let mut session = Session::new(alloc)?;
     let mut summary = Summary::new(alloc, 1, 2);
     for text in SCRIPT.lines() {
         println!(rt; "> {text}")?;
         let line = parse_line(alloc, text)?;
         let plan = called_plan(&line);
-        if let Some(reply) = reply_to_line(rt, &mut session, line)? {
+        if let Some(reply) = take_line(rt, &BuiltInFiles, &mut session, line)? {
             println!(rt; "{reply}")?;
             summary.enter(text, plan, &reply)?;
         }

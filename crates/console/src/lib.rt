@@ -2,9 +2,11 @@
 #![tactic(auto)]
 
 pub mod chart_files;
+mod current_chart;
 pub mod demo;
 mod plan_state;
 pub mod program;
+mod replies;
 pub mod session;
 
 pub use chart_files::{BuiltInFiles, Files, FolderFiles};

@@ -1,22 +1,31 @@
 // Plans by number, each in its state, and the calls of those that are filed.
-ghost use Rattle.std.specs.Prelude.{◌≡◌, length, true, is_err, OnErr};
+ghost use Rattle.std.specs.Prelude.{◌≡◌, ◌≤◌, length, MatchResult};
 ghost use Rattle.search.specs.Snapshots.{snapshot_fixes, snapshot_legs};
-ghost use Rattle.plan.specs.Plans.{ledger_of};
+ghost use Rattle.plan.specs.Plans.{chart_of, ledger_of};
 ghost use Rattle.runs.specs.Histories.{call_places, ledger_after_call};
 ghost use Rattle.runs.specs.RepliesTo.{IsReplyTo};
+ghost use Rattle.protocol.specs.declared.reply_line.Answer.TheVariants as answer;
+ghost use Rattle.console.specs.declared.plan_state.PlanState.TheVariants as state;
+ghost use Rattle.console.specs.Sessions.{chart_model, current_if_any, plan_model};
+ghost use Rattle.console.specs.Calls.{IsOutOfTurn, IsCallOf, TellsReply};
+ghost use Rattle.console.specs.Steps.{Becomes, drafted_from, filed_from, closed_from, IsEndsStep, IsFiledStep, IsCallStep, IsPlanStep, IsPictureOf};
 
+use super::current_chart::CurrentChart;
 use chart::{Ends, most_legs};
+use picture::{Drawing, svg_of};
 use plan::{BestRefusal, Closed, Draft, Filed};
-use protocol::{Answer, AnyRefusal, CommandError, PlanCall, Rejection};
+use protocol::{Answer, AnyRefusal, CommandError, PlanCall, PlanCommand, Rejection};
 use runs::run::run;
 use runs::{Call, Reply};
 use search::Snapshot;
-use std::alloc::Global;
+use std::alloc::{AllocError, Global};
 use std::default::Default;
 use std::mem;
 
 // The call as a run takes it. A route takes `most` places where it says no number.
-fn as_call(call: &PlanCall, most: u16) -> Call<'_> {
+fn as_call(call: &PlanCall, most: u16) -> Call<'_>
+    ensures { IsCallOf call.now most result }
+{
     match call {
         PlanCall::Amend(amendment) => Call::Amend(*amendment),
         PlanCall::Route { places } => Call::Route {
@@ -31,14 +40,16 @@ fn as_call(call: &PlanCall, most: u16) -> Call<'_> {
 }
 
 // What the reply of a run answers, with the legs of a route from the memory.
-fn answer_of<'a>(alloc: Global, reply: Reply, memory: &[u16]) -> Result<Answer, CommandError<'a>> {
+fn answer_of<'a>(alloc: Global, reply: Reply, memory: &[u16]) -> Result<Answer, CommandError<'a>>
+    ensures { TellsReply reply memory.now result }
+{
     Ok(match reply {
         Reply::Amend(answer) => Answer::Amend {
             revision: answer.map_err(AnyRefusal::Amend)?,
         },
         Reply::Route(answer) => {
             let found = answer.map_err(AnyRefusal::Route)?;
-            let legs = memory.get(..found.legs as usize).unwrap_or(&[]);
+            let legs = memory.get(..found.legs as usize).unwrap_or(memory);
             Answer::Route {
                 regret: found.regret,
                 legs: Vec::from_slice(alloc, legs)?,
@@ -56,7 +67,8 @@ fn answer_of<'a>(alloc: Global, reply: Reply, memory: &[u16]) -> Result<Answer, 
 #[tactic(auto, unfolding(runs::specs::Histories::ledger_after_calls))]
 fn reply_to(plan: &mut Filed<Snapshot>, call: Call<'_>, memory: &mut [u16]) -> Reply
     requires room { length memory.old ≡ call_places call }
-    ensures is_reply_to_call { IsReplyTo (snapshot_fixes plan.old.chart) (ledger_of snapshot_legs plan.old) call.entry result memory.old memory.new }
+    ensures is_reply_to_call { IsReplyTo (snapshot_fixes plan.old.chart) (ledger_of snapshot_legs plan.old)
+        call.entry result memory.old memory.new }
     ensures ledger { ledger_of snapshot_legs plan.new
         ≡ ledger_after_call (snapshot_legs plan.old.chart) (ledger_of snapshot_legs plan.old) call.entry }
     ensures chart { plan.new.chart ≡ plan.old.chart }
@@ -66,14 +78,41 @@ fn reply_to(plan: &mut Filed<Snapshot>, call: Call<'_>, memory: &mut [u16]) -> R
     replies[0]
 }
 
+// So many places of memory. An error is want of memory, which there is for no places.
+fn blank_places(alloc: Global, places: usize) -> Result<Vec<u16>, AllocError>
+    ensures { MatchResult result (λ memory. length memory.items ≡ places) (λ _. 1 ≤ places) }
+{
+    if places == 0 {
+        return Ok(Vec::new(alloc));
+    }
+    vec![in alloc; 0u16; places]
+}
+
+// A drawing of the chart of a filed plan, with its route of least regret if it has one.
+fn draw(alloc: Global, plan: &Filed<Snapshot>) -> Result<String, AllocError> {
+    let mut memory = vec![in alloc; 0u16; most_legs(plan) as usize]?;
+    let legs = plan
+        .route(memory.as_mut_slice())
+        .map_or(0, |found| found.legs);
+    let drawing = Drawing {
+        ends: plan.status().ends,
+        route: memory.as_slice().get(..legs as usize).unwrap_or(&[]),
+        names: &[],
+    };
+    svg_of(alloc, plan, &drawing)
+}
+
 // Makes one call of a filed plan.
 fn make_call<'a>(
     alloc: Global,
     plan: &mut Filed<Snapshot>,
     call: &PlanCall,
-) -> Result<Answer, CommandError<'a>> {
+) -> Result<Answer, CommandError<'a>>
+    ensures { IsFiledStep (chart_model (chart_of plan.old)) (ledger_of snapshot_legs plan.old) call.now result
+        (plan_model (state.Filed plan.new)) }
+{
     let call = as_call(call, most_legs(plan));
-    let mut memory = vec![in alloc; 0u16; call.places()]?;
+    let mut memory = blank_places(alloc, call.places())?;
     let reply = reply_to(plan, call, memory.as_mut_slice());
     answer_of(alloc, reply, memory.as_slice())
 }
@@ -84,7 +123,7 @@ pub(crate) enum PlanState {
     Vacant,
     Draft(Draft<Snapshot>),
     Filed(Filed<Snapshot>),
-    Closed(Closed),
+    Closed(Closed<Snapshot>),
 }
 
 impl Default for PlanState {
@@ -94,25 +133,47 @@ impl Default for PlanState {
 }
 
 impl PlanState {
-    // A number is drafted again once its plan is closed.
-    pub(crate) fn draft<'a>(
+    // Runs a command of the plan, which has this number.
+    pub(crate) fn run<'a>(
         &mut self,
+        alloc: Global,
         plan: u16,
-        chart: Snapshot,
+        command: &PlanCommand,
+        current_chart: &Option<CurrentChart>,
     ) -> Result<Answer, CommandError<'a>>
-        ensures { OnErr result (self.new ≡ self.old) }
+        ensures { IsPlanStep (current_if_any current_chart.now) plan command.now
+            (plan_model self.old) result (plan_model self.new) }
     {
-        match self {
-            PlanState::Vacant | PlanState::Closed(_) => {
-                *self = PlanState::Draft(Draft::new(chart));
-                Ok(Answer::Draft { plan })
-            }
-            PlanState::Draft(_) | PlanState::Filed(_) => Err(Rejection::WrongState.into()),
+        match command {
+            PlanCommand::Draft => self.draft(plan, current_chart),
+            PlanCommand::Ends(ends) => self.ends(*ends),
+            PlanCommand::File => self.file(),
+            PlanCommand::Call(call) => self.call(alloc, call),
+            PlanCommand::Close => self.close(),
         }
     }
 
+    // A number is drafted, unless it has a draft or a filed plan; none says that there is no current chart.
+    pub(crate) fn draft<'a>(
+        &mut self,
+        plan: u16,
+        current_chart: &Option<CurrentChart>,
+    ) -> Result<Answer, CommandError<'a>>
+        ensures { Becomes (drafted_from (current_if_any current_chart.now) (plan_model self.old)) (answer.Draft plan)
+            (plan_model self.old) result (plan_model self.new) }
+    {
+        match (current_chart, &*self) {
+            (Some(current_chart), PlanState::Vacant | PlanState::Closed(_)) => {
+                *self = PlanState::Draft(Draft::new(Snapshot::of(&current_chart.chart)));
+                Ok(Answer::Draft { plan })
+            }
+            _ => Err(Rejection::WrongState.into()),
+        }
+    }
+
+    // Sets the ends of a draft.
     pub(crate) fn ends<'a>(&mut self, ends: Ends) -> Result<Answer, CommandError<'a>>
-        ensures { OnErr result (self.new ≡ self.old) }
+        ensures { IsEndsStep ends (plan_model self.old) result (plan_model self.new) }
     {
         let PlanState::Draft(draft) = self else {
             return Err(Rejection::WrongState.into());
@@ -121,8 +182,10 @@ impl PlanState {
         Ok(Answer::Ends(ends))
     }
 
+    // Files a draft.
     pub(crate) fn file<'a>(&mut self) -> Result<Answer, CommandError<'a>>
-        ensures { OnErr result (self.new ≡ self.old) }
+        ensures { Becomes (filed_from (plan_model self.old)) (answer.File 0)
+            (plan_model self.old) result (plan_model self.new) }
     {
         match mem::take(self) {
             PlanState::Draft(draft) => {
@@ -135,8 +198,10 @@ impl PlanState {
         }
     }
 
+    // Closes a filed plan.
     pub(crate) fn close<'a>(&mut self) -> Result<Answer, CommandError<'a>>
-        ensures { OnErr result (self.new ≡ self.old) }
+        ensures { Becomes (closed_from (plan_model self.old)) answer.Close
+            (plan_model self.old) result (plan_model self.new) }
     {
         match mem::take(self) {
             PlanState::Filed(filed) => {
@@ -151,18 +216,32 @@ impl PlanState {
     // The plan stays as it was, since it is not in the state that the command needs.
     fn keep<'a>(&mut self, state: PlanState) -> Result<Answer, CommandError<'a>>
         ensures kept { self.new ≡ state }
-        ensures rejected { is_err result ≡ true }
+        ensures out_of_turn { IsOutOfTurn result }
     {
         *self = state;
         Err(Rejection::WrongState.into())
     }
 
-    // A closed plan still has its status.
+    // Draws a filed plan.
+    pub(crate) fn picture<'a>(&self, alloc: Global) -> Result<Answer, CommandError<'a>>
+        ensures { IsPictureOf (plan_model self.now) result }
+    {
+        match self {
+            PlanState::Filed(filed) => Ok(Answer::Picture {
+                svg: draw(alloc, filed)?,
+            }),
+            _ => Err(Rejection::WrongState.into()),
+        }
+    }
+
+    // Makes a call of a filed plan. A closed plan still has its status.
     pub(crate) fn call<'a>(
         &mut self,
         alloc: Global,
         call: &PlanCall,
-    ) -> Result<Answer, CommandError<'a>> {
+    ) -> Result<Answer, CommandError<'a>>
+        ensures { IsCallStep call.now (plan_model self.old) result (plan_model self.new) }
+    {
         match (self, call) {
             (PlanState::Filed(filed), _) => make_call(alloc, filed, call),
             (PlanState::Closed(closed), PlanCall::Status) => Ok(Answer::Status(closed.status())),

@@ -1,4 +1,5 @@
-// Has the reader of chart files read sound and damaged files, and compares what it answers with what each case expects.
+// Has sound and damaged chart files read, by a reader that borrows and by an index that owns the file, and compares what each answers
+// with what the case expects.
 #![tactic(auto)]
 
 mod cases;

@@ -1,14 +1,9 @@
 -- The fixes that the legs of a chain leave and enter.
-use Rattle.std.proofs.Common.{◌≡◌, ℕ, List, [], ◌∷◌, sym, ◌∙◌, inl, inr, ⊎_elim, arith}
+use Rattle.std.proofs.Common.{◌≡◌, ℕ, List, [], ◌∷◌, ◌∙◌, ⊎_elim, arith}
 use Rattle.chart.specs.declared.leg.Leg.{Leg}
 use Rattle.chart.specs.Legs.{leg_at}
 use Rattle.chart.specs.Routes.{Leads, fixes_entered, fixes_of_chain, IsIn, HasNoRepeats}
 use Rattle.regret.proofs.WorstChoice.{in_fixes_entered}
-
--- the end of a chain is met
-pub end_in_chain : (legs : List Leg) (ks : List ℕ) (s z : ℕ) → Leads legs s ks z → IsIn z (fixes_of_chain legs s ks)
-end_in_chain legs [] s z e = inl (sym e)
-end_in_chain legs (k ∷ ks) s z l = inr (end_in_chain legs ks (leg_at legs k).to z l.1)
 
 -- a fix that is entered is entered by one of the legs
 pub entered_by : (legs : List Leg) (ks : List ℕ) (x : ℕ) → IsIn x (fixes_entered legs ks) → (k : ℕ) × IsIn k ks × (x ≡ (leg_at legs k).to)
@@ -24,11 +19,6 @@ left_by legs (k ∷ ks) s z x l i n = grind (arith, left_by legs ks (leg_at legs
 pub left_in_chain : (legs : List Leg) (ks : List ℕ) (s z : ℕ) → Leads legs s ks z → (k : ℕ) → IsIn k ks → IsIn (leg_at legs k).from (fixes_of_chain legs s ks)
 left_in_chain legs [] s z l k i = absurd i
 left_in_chain legs (m ∷ ms) s z l k i = grind (arith, left_in_chain legs ms (leg_at legs m).to z l.1 k)
-
--- and is not the end
-pub left_not_end : (legs : List Leg) (ks : List ℕ) (s z : ℕ) → Leads legs s ks z → HasNoRepeats (fixes_of_chain legs s ks) → (k : ℕ) → IsIn k ks → (leg_at legs k).from ≡ z → ⊥
-left_not_end legs [] s z l d k i e = i
-left_not_end legs (m ∷ ms) s z l d k i e = grind (arith, left_not_end legs ms (leg_at legs m).to z l.1 d.1 k, end_in_chain legs ms (leg_at legs m).to z l.1)
 
 -- two legs of a chain enter different fixes
 pub enters_no_fix_twice : (legs : List Leg) (ks : List ℕ) → HasNoRepeats (fixes_entered legs ks) → (k m : ℕ) → IsIn k ks → IsIn m ks → (leg_at legs k).to ≡ (leg_at legs m).to → k ≡ m

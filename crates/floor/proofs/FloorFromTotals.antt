@@ -5,7 +5,7 @@ use Rattle.chart.specs.declared.leg.Leg.{Leg}
 use Rattle.chart.specs.Regret.{query}
 use Rattle.chart.specs.Floors.{IsLeastExtension}
 use Rattle.search.specs.declared.walked.Walked.{Walked}
-use Rattle.floor.specs.Answers.{FloorAnswer}
+use Rattle.floor.specs.Answers.{floor_outcome, IsFloorOutcome}
 use Rattle.floor.specs.internal.Onward.{IsLeastAvoiding}
 use Rattle.search.specs.Walks.{IsWalkedAlong}
 use Rattle.floor.specs.internal.FloorChoice.{HasFloorChoiceTime}
@@ -17,7 +17,7 @@ module _ (legs : List Leg) (s t : ℕ) (ks : List ℕ) (w : Walked) (along : IsW
   near = least_extension_by legs s t ks w.end w.used along.walk x onward w.high along.sums floor_choice.least.by floor_choice.least.is_route
 
   -- the time of the floor choice is not above that of the least extension, and the floor is what it is below
-  pub floor_found : (b ≤ w.high + x) × FloorAnswer (query legs s t) ks (Ok (w.high + x - b))
+  pub floor_found : (b ≤ w.high + x) × IsFloorOutcome (query legs s t) ks (floor_outcome (Ok (w.high + x - b)))
   floor_found =
       let below = floor_is_never_negative (query legs s t) ks (w.high + x) b floor_choice.choice near floor_choice.floor_choice floor_choice.least in (
         below,

@@ -1,16 +1,9 @@
 -- Lists and chains that are put together of two parts.
-use Rattle.std.proofs.Common.{ℕ, ◌⊎◌, List, [], ◌∷◌, ◌++◌, sym, subst, inr, arith}
+use Rattle.std.proofs.Common.{ℕ, List, [], ◌∷◌, ◌++◌, sym, subst, arith}
 use Rattle.chart.specs.declared.leg.Leg.{Leg}
 use Rattle.chart.specs.Legs.{leg_at}
 use Rattle.chart.specs.Routes.{Leads, IsIn, HasNoRepeats}
-
-pub in_append_right : (us vs : List ℕ) (v : ℕ) → IsIn v vs → IsIn v (us ++ vs)
-in_append_right [] vs v i = i
-in_append_right (u ∷ us) vs v i = grind (arith, in_append_right us vs v)
-
-pub in_append : (us vs : List ℕ) (v : ℕ) → IsIn v (us ++ vs) → IsIn v us ⊎ IsIn v vs
-in_append [] vs v i = inr i
-in_append (u ∷ us) vs v i = grind (arith, in_append us vs v)
+use Rattle.chart.proofs.Chains.{in_append_right, in_append}
 
 pub parts_apart : (xs ys : List ℕ) (z : ℕ) → IsIn z xs → IsIn z ys → HasNoRepeats (xs ++ ys) → ⊥
 parts_apart [] ys z i j d = i

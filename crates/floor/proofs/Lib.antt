@@ -5,3 +5,4 @@ pub mod RoutesExtending
 pub mod ShutLegs
 pub mod FloorBelowRegret
 pub mod FloorFromTotals
+pub mod OneFloorOutcome

@@ -7,7 +7,7 @@ use Rattle.chart.specs.Legs.{leg_at, IsChart}
 use Rattle.chart.specs.Routes.{fixes_entered, fixes_of_chain, HasNoRepeats, IsChain, IsRouteBetween}
 use Rattle.chart.specs.Regret.{query, time}
 use Rattle.chart.specs.Floors.{LeavesSource, highs, IsLeastExtension, NoRouteExtends}
-use Rattle.chart.proofs.Chains.{leads_on, fixes_entered_append}
+use Rattle.chart.proofs.Chains.{leads_on, fixes_entered_append, end_in_chain}
 use Rattle.chart.proofs.ShortRoutes.{chain_short}
 use Rattle.chart.proofs.RouteEnds.{route_leaves_fix}
 use Rattle.search.specs.Walks.{IsWalk, IsNoChain}
@@ -16,7 +16,7 @@ use Rattle.regret.proofs.WorstChoice.{in_fixes_entered}
 use Rattle.search.proofs.WalkedChains.{highs_small, time_join}
 use Rattle.regret.proofs.RegretFromBest.{chain_is_route}
 use Rattle.floor.specs.internal.Onward.{AvoidsUsed, IsLeastAvoiding, LeastOnward}
-use Rattle.floor.proofs.FixesOfChains.{entered_by, end_in_chain}
+use Rattle.floor.proofs.FixesOfChains.{entered_by}
 use Rattle.floor.proofs.JoinedLists.{parts_apart, no_repeats_right, no_repeats_append, leads_join}
 
 module _ (legs : List Leg) (s t : ℕ) (ks : List ℕ) (z : ℕ) (used : List Bool) (walk : IsWalk legs s ks z used) where

@@ -11,12 +11,13 @@ use Rattle.chart.specs.Regret.{query}
 use Rattle.chart.specs.Floors.{IsShut, IsFloorChoice}
 use Rattle.search.specs.declared.walked.Walked.{Walked}
 use Rattle.search.specs.Walks.{IsWalk, IsWalkedAlong}
-use Rattle.regret.specs.FlaggedTimes.{time_by, flagged_times}
+use Rattle.regret.specs.FlaggedTimes.{time_by, flagged_times, flagged_choice}
+use Rattle.chart.proofs.Chains.{left_not_end}
 use Rattle.search.proofs.LongerWalks.{true_false}
 use Rattle.regret.proofs.WorstChoice.{in_fixes_entered}
-use Rattle.regret.proofs.RegretFromBest.{flagged_choice, best_is_least}
+use Rattle.regret.proofs.RegretFromBest.{best_is_least}
 use Rattle.floor.specs.internal.FloorChoice.{IsUsedBeside, AreUnshut, FloorChoiceTime}
-use Rattle.floor.proofs.FixesOfChains.{entered_by, left_by, left_in_chain, left_not_end}
+use Rattle.floor.proofs.FixesOfChains.{entered_by, left_by, left_in_chain}
 
 -- a leg outside the chain, by the flags of the fixes that it joins
 module _ (legs : List Leg) (s : ℕ) (ks : List ℕ) (w : Walked) (along : IsWalkedAlong legs s ks w) (k : ℕ) (leg : Leg) (is : leg ≡ leg_at legs k) (unflagged : get_or w.flown k false ≡ false) where

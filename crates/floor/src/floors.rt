@@ -3,7 +3,7 @@
 ghost use Rattle.chart.specs.Regret.{query};
 ghost use Rattle.chart.specs.Floors.{FloorIsBelowEveryRegret, FloorIsNeverNegative, FloorIsUnique};
 ghost use Rattle.search.specs.Snapshots.{snapshot_legs};
-ghost use Rattle.floor.specs.Answers.{FloorAnswer};
+ghost use Rattle.floor.specs.Answers.{floor_outcome, IsFloorOutcome};
 
 use super::floor_choice::floor_choice_time;
 use super::onward::least_onward;
@@ -14,7 +14,7 @@ use search::{Snapshot, walk};
 /// The floor of a list of legs between two ends, in seconds, on a snapshot, which is taken once for many questions. It
 /// is refused as `floor` says.
 pub fn floor_on(snapshot: &Snapshot, ends: Ends, chain: &[u16]) -> Result<u32, FloorRefusal>
-    ensures { FloorAnswer (query (snapshot_legs snapshot.now) ends.from ends.to) chain.now result }
+    ensures { IsFloorOutcome (query (snapshot_legs snapshot.now) ends.from ends.to) chain.now (floor_outcome result) }
 {
     // The empty list is a chain from every number: where it is not walked along, the departure is no fix.
     let unwalked = if chain.is_empty() {
@@ -36,7 +36,7 @@ pub fn floor_on(snapshot: &Snapshot, ends: Ends, chain: &[u16]) -> Result<u32, F
 /// regret. It is refused with the number 14 where the list is no chain that leaves the departure, and with 25 where it
 /// is one and no route begins with it.
 pub fn floor<C: Chart>(chart: &C, ends: Ends, chain: &[u16]) -> Result<u32, FloorRefusal>
-    ensures answers { FloorAnswer (query (C.legs chart.now) ends.from ends.to) chain.now result }
+    ensures answers { IsFloorOutcome (query (C.legs chart.now) ends.from ends.to) chain.now (floor_outcome result) }
     ensures below_every_regret { FloorIsBelowEveryRegret }
     ensures never_negative { FloorIsNeverNegative }
     ensures unique { FloorIsUnique }

@@ -1,5 +1,5 @@
 // Lattices that are drawn, the same on every run.
-use super::kinds::{Kind, Spread};
+use super::spreads::{Spread, SpreadLimits};
 use chart::{Interval, Lattice, Step};
 use std::alloc::Global;
 
@@ -28,42 +28,42 @@ impl RandomNumbers {
     }
 
     // The interval of a leg, which may lead to another row.
-    fn interval(&mut self, spread: &Spread, is_slanting: bool) -> Interval {
-        let slant = if is_slanting { spread.slant } else { 0 };
-        let low = u32::from(spread.low)
+    fn interval(&mut self, limits: &SpreadLimits, is_slanting: bool) -> Interval {
+        let slant = if is_slanting { limits.slant } else { 0 };
+        let low = u32::from(limits.low)
             + u32::from(slant)
-            + u32::from(self.up_to(spread.low_varies));
-        let width = u32::from(spread.width) + u32::from(self.up_to(spread.width_varies));
+            + u32::from(self.up_to(limits.low_varies));
+        let width = u32::from(limits.width) + u32::from(self.up_to(limits.width_varies));
         Interval {
             low,
             high: low + width,
         }
     }
 
-    fn step(&mut self, spread: &Spread) -> Step {
-        let back = self.interval(spread, true);
-        let on = self.interval(spread, false);
-        let ahead = self.interval(spread, true);
+    fn step(&mut self, limits: &SpreadLimits) -> Step {
+        let back = self.interval(limits, true);
+        let on = self.interval(limits, false);
+        let ahead = self.interval(limits, true);
         Step {
             turns: [back, on, ahead],
         }
     }
 }
 
-// A lattice of so many rows and columns, with times of a kind.
+// A lattice of so many rows and columns, with times of a spread.
 pub(crate) fn drawn_lattice(
     alloc: Global,
     rows: u16,
     columns: u16,
-    kind: Kind,
+    spread: Spread,
 ) -> anyhow::Result<Lattice> {
     let mut numbers = RandomNumbers {
         last: u32::from(rows) * u32::from(columns),
     };
-    let spread = kind.spread();
+    let limits = spread.limits();
     let mut steps = Vec::new(alloc);
     for _ in 1..columns {
-        steps.push(numbers.step(&spread))?;
+        steps.push(numbers.step(&limits))?;
     }
     Ok(Lattice::new(rows, columns, TOP, &steps)?)
 }

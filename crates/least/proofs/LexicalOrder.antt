@@ -1,5 +1,5 @@
 -- The order of lists, and the order of routes by regret and list: of a regret before its list, as of one list.
-use Rattle.std.proofs.Common.{◌≡◌, ℕ, ◌<◌, Bool, ◌⊎◌, List, [], ◌∷◌, ◌++◌, Some, MatchBool, sym, refl, ap, ◌∙◌, subst, inl, inr, arith}
+use Rattle.std.proofs.Common.{◌≡◌, ℕ, ◌<◌, Bool, IsTrue, ◌↔◌, ◌⊎◌, List, [], ◌∷◌, ◌++◌, Some, MatchBool, sym, refl, ap, ◌∙◌, subst, inl, inr, arith}
 use Rattle.std.specs.declared.cmp.Ordering.{Ordering}
 use Rattle.std.specs.declared.cmp.Ordering.TheVariants.{Less, Equal, Greater}
 use Rattle.std.specs.Ordering.{MatchOrdering, nat_cmp, ordering_then, is_lt, is_some_and}
@@ -47,13 +47,26 @@ lex_before_of_cmp (x ∷ a) (y ∷ b) = first (nat_cmp x y) (ranked x y (nat_cmp
     first Equal e Equal h = cc
     first Equal e Greater h = inr (sym e, h)
 
--- what a test by `<` tells of two regrets with their lists
-pub preferred_told : (x : ℕ) (p : List ℕ) (y : ℕ) (q : List ℕ) (r : Bool) → r ≡ is_some_and is_lt (slice_partial_cmp (λ a b. Some (nat_cmp a b)) (x ∷ p) (y ∷ q)) → MatchBool r (IsPreferred x p y q) ((q ≡ p) ⊎ IsPreferred y q x p)
-preferred_told x p y q r e =
+-- what holds of a test by `<` of two regrets with their lists, from how std compares them
+by_order : (x : ℕ) (p : List ℕ) (y : ℕ) (q : List ℕ) (r : Bool) → r ≡ is_some_and is_lt (slice_partial_cmp (λ a b. Some (nat_cmp a b)) (x ∷ p) (y ∷ q)) → (P : Bool → Type 0) → ((o : Ordering) → MatchOrdering o (IsPreferred x p y q) (y ∷ q ≡ x ∷ p) (IsPreferred y q x p) → P (is_lt o)) → P r
+by_order x p y q r e P told =
     let f : r ≡ is_lt (slice_cmp nat_cmp (x ∷ p) (y ∷ q)) = e ∙ ap (λ o. is_some_and is_lt o) (lists_agrees {R = nat_cmp} (λ a b. refl) (x ∷ p) (y ∷ q)) in
-    subst (λ b. MatchBool b (IsPreferred x p y q) ((q ≡ p) ⊎ IsPreferred y q x p)) (sym f) (told (slice_cmp nat_cmp (x ∷ p) (y ∷ q)) (lex_before_of_cmp (x ∷ p) (y ∷ q)))
+    subst P (sym f) (told (slice_cmp nat_cmp (x ∷ p) (y ∷ q)) (lex_before_of_cmp (x ∷ p) (y ∷ q)))
+
+-- what the test tells
+pub preferred_told : (x : ℕ) (p : List ℕ) (y : ℕ) (q : List ℕ) (r : Bool) → r ≡ is_some_and is_lt (slice_partial_cmp (λ a b. Some (nat_cmp a b)) (x ∷ p) (y ∷ q)) → MatchBool r (IsPreferred x p y q) ((q ≡ p) ⊎ IsPreferred y q x p)
+preferred_told x p y q r e = by_order x p y q r e (λ b. MatchBool b (IsPreferred x p y q) ((q ≡ p) ⊎ IsPreferred y q x p)) told
   where
     told : (o : Ordering) → MatchOrdering o (IsPreferred x p y q) (y ∷ q ≡ x ∷ p) (IsPreferred y q x p) → MatchBool (is_lt o) (IsPreferred x p y q) ((q ≡ p) ⊎ IsPreferred y q x p)
     told Less h = h
     told Equal h = inl (cc)
     told Greater h = inr h
+
+-- and it is true just where the order says so
+pub preferred_if_told : (x : ℕ) (p : List ℕ) (y : ℕ) (q : List ℕ) (r : Bool) → r ≡ is_some_and is_lt (slice_partial_cmp (λ a b. Some (nat_cmp a b)) (x ∷ p) (y ∷ q)) → IsTrue r ↔ IsPreferred x p y q
+preferred_if_told x p y q r e = by_order x p y q r e (λ b. IsTrue b ↔ IsPreferred x p y q) told
+  where
+    told : (o : Ordering) → MatchOrdering o (IsPreferred x p y q) (y ∷ q ≡ x ∷ p) (IsPreferred y q x p) → IsTrue (is_lt o) ↔ IsPreferred x p y q
+    told Less h = (λ _. h, λ _. refl)
+    told Equal h = (λ no. cc, λ first. absurd (not_lex_before_itself (x ∷ p) (subst (λ l. LexBefore (x ∷ p) l) h first)))
+    told Greater h = (λ no. cc, λ first. absurd (not_lex_before_itself (x ∷ p) (lex_before_trans (x ∷ p) (y ∷ q) (x ∷ p) first h)))

@@ -5,3 +5,4 @@ pub mod PrunedChains
 pub mod SearchedParts
 pub mod ExploredLegs
 pub mod OptimalRoute
+pub mod OneRouteOutcome

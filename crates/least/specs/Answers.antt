@@ -1,5 +1,6 @@
 -- What the call for the route of least regret answers.
-use Rattle.std.specs.Prelude.{◌≡◌, ℕ, ◌+◌, ◌<◌, ◌≤◌, List, length, take, drop, Ok, Err, Result, codes}
+use Rattle.std.specs.Prelude.{◌≡◌, ℕ, ◌+◌, ◌<◌, ◌≤◌, ◌⊎◌, List, [], ◌∷◌, length, take, drop, Result, codes}
+use Rattle.chart.specs.Outcomes.{Outcome, values, refused, outcome_by}
 use Rattle.chart.specs.Regret.{Query, IsRoute, IsLeastRegret}
 use Rattle.floor.specs.declared.refusals.FloorRefusal.TheVariants.{NoRoute as FloorNoRoute}
 use Rattle.floor.specs.Answers.{floor_words}
@@ -17,17 +18,26 @@ abbrev pub route_words : RouteRefusal → List ℕ
 route_words ShortMemory = codes "fewer places of memory than a route can have legs"
 route_words NoRoute = floor_words FloorNoRoute
 
--- the first places of the memory hold the route of least regret, and the places after it are what they were
-pub record HoldsLeastRegret (t : Query) (fixes : ℕ) (memory : List ℕ) (f : FoundRoute) (memory' : List ℕ) : Type 0 where
-  pub room : fixes ≤ length memory + 1
-  pub fits : f.legs ≤ length memory
-  pub least : IsLeastRegret t (take f.legs memory') f.regret
-  pub later : drop f.legs memory' ≡ drop f.legs memory
+-- what a result says: the number of legs and the regret, or the number of the refusal
+abbrev pub route_outcome : Result FoundRoute RouteRefusal → Outcome
+route_outcome result = outcome_by (λ (found : FoundRoute). found.legs ∷ found.regret ∷ []) route_number result
 
--- The route of least regret is written where the memory has a place for all fixes but one and there is a route.
--- Where it is refused the memory is what it was.
-abbrev pub RouteAnswer : Query → ℕ → List ℕ → Result FoundRoute RouteRefusal → List ℕ → Type 0
-RouteAnswer t fixes memory (Ok f) memory' = HoldsLeastRegret t fixes memory f memory'
-RouteAnswer t fixes memory (Err ShortMemory) memory' = (length memory + 1 < fixes) × (memory' ≡ memory)
-RouteAnswer t fixes memory (Err NoRoute) memory' =
-    (fixes ≤ length memory + 1) × ((q : List ℕ) → IsRoute t q → ⊥) × (memory' ≡ memory)
+-- the first places of the memory hold the route of least regret, and the places after it are what they were
+pub record HoldsLeastRegret (t : Query) (fixes : ℕ) (memory : List ℕ) (legs regret : ℕ) (memory' : List ℕ) : Type 0 where
+  pub room : fixes ≤ length memory + 1
+  pub fits : legs ≤ length memory
+  pub least : IsLeastRegret t (take legs memory') regret
+  pub later : drop legs memory' ≡ drop legs memory
+
+-- there is no route
+abbrev pub HasNoRoute : Query → Type 0
+HasNoRoute t = (q : List ℕ) → IsRoute t q → ⊥
+
+-- The route of least regret is written; or the memory is what it was, with 15 where it has no place for all fixes but
+-- one, and with 25 where it has and there is no route.
+abbrev pub IsRouteOutcome : Query → (fixes : ℕ) → (memory : List ℕ) → Outcome → (memory' : List ℕ) → Type 0
+IsRouteOutcome t fixes memory (values (legs ∷ regret ∷ [])) memory' = HoldsLeastRegret t fixes memory legs regret memory'
+IsRouteOutcome t fixes memory (refused n) memory' =
+    (((n ≡ 15) × (length memory + 1 < fixes)) ⊎ ((n ≡ 25) × (fixes ≤ length memory + 1) × HasNoRoute t))
+    × (memory' ≡ memory)
+IsRouteOutcome t fixes memory _ memory' = ⊥

@@ -10,7 +10,7 @@ use regret::regret_on;
 use search::{Snapshot, step};
 
 // No route has more regret: it has fewer legs than there are fixes.
-const MOST_REGRET: u32 = MAX_SECONDS * MAX_FIXES as u32;
+const MOST_REGRET: u32 = MAX_SECONDS * (MAX_FIXES as u32 - 1);
 
 // A route and its regret.
 #[derive(Drop)]
@@ -42,13 +42,14 @@ pub(crate) struct BranchAndBound<'a> {
     pub(crate) incumbent: Option<Incumbent>,
 }
 
-// Each method that changes the search says that it leaves all but the incumbent what it was. Every reason to prune a chain is
-// in `can_prune`.
+// Each method that changes the search says that it leaves all but the incumbent what it was. Every reason to prune a chain has a
+// method, which promises when the reason applies and when not, and `can_prune` asks them.
 impl<'a> BranchAndBound<'a> {
-    ghost use Rattle.std.specs.Prelude.{IsTrue};
-    ghost use Rattle.chart.specs.Floors.{IsPrefix};
-    ghost use Rattle.pursuit.specs.Pursuits.{IsBelowRegrets};
-    ghost use Rattle.least.specs.internal.BranchAndBound.{searched_query, IsValidIncumbent, Searches, ChangesOnlyIncumbent, IsOnly, ExtendsBy, HasPrunableChain, IsReady};
+    ghost use Rattle.std.specs.Prelude.{IsTrue, ◌↔◌};
+    ghost use Rattle.chart.specs.Floors.{IsPrefix, LeavesSource};
+    ghost use Rattle.pursuit.specs.Answers.{IsPursuit};
+    ghost use Rattle.least.specs.internal.BranchAndBound.{searched_query, IsValidIncumbent, Searches, ChangesOnlyIncumbent, IsOnly, ExtendsBy, IsReady};
+    ghost use Rattle.least.specs.internal.BranchAndBound.{HasPrunableChain, BoundShows, FloorShows, TellsByBound, TellsReason};
 
     // Keeps the chain where it is a route and better than the incumbent. What it works on is kept out of the frames of the
     // search.
@@ -70,41 +71,58 @@ impl<'a> BranchAndBound<'a> {
         }
     }
 
-    // Whether no route that begins with the chain could replace the incumbent, where each has a regret of at least `least`.
+    // Whether a regret of at least `least` of each route that begins with the chain shows that none could replace the incumbent.
+    // At an equal regret the lists decide; without an incumbent only a regret shows it that no route has.
     fn can_prune_by(&self, least: u32) -> bool
-        requires { IsBelowRegrets (searched_query self.now) self.now.chain.items least }
-        ensures { IsTrue result → HasPrunableChain self.now }
+        ensures { IsTrue result ↔ BoundShows self.now least }
     {
-        if least > MOST_REGRET {
-            return true;
-        }
         let list = self.chain.as_slice();
-        self.incumbent
-            .as_ref()
-            .is_some_and(|incumbent| incumbent.rank() < (least, list))
+        match &self.incumbent {
+            Some(incumbent) => incumbent.rank() < (least, list),
+            None => least > MOST_REGRET,
+        }
     }
 
-    // Whether no route that begins with the chain, which leads to the fix `here`, could replace the incumbent. The reason is
-    // the pursuit bound of the chain, or its floor where the chart has no pursuit: every route that begins with the chain has
-    // at least that regret. What it works on is kept out of the frames of the search, which goes deep.
+    // Whether the pursuit bound of the chain, which leads to the fix `here`, shows that no route that begins with it could replace
+    // the incumbent. Which bound it is, is not known, only that it is a bound.
+    fn can_prune_by_pursuit(&self, pursuit: &Pursuit, here: u16) -> bool
+        requires ready { IsReady self.now here }
+        requires pursued { IsPursuit (searched_query self.now) pursuit.now }
+        ensures { TellsByBound self.now result }
+    {
+        let chain = ChainState {
+            end: here,
+            high: self.high,
+            flags: &self.flags,
+        };
+        self.can_prune_by(bound(self.snapshot, self.ends, pursuit, &chain))
+    }
+
+    // Whether the floor of the chain shows that no route that begins with it could replace the incumbent, or there is no such
+    // route.
+    fn can_prune_by_floor(&self) -> bool
+        requires { LeavesSource (searched_query self.now) self.now.chain.items }
+        ensures { IsTrue result ↔ FloorShows self.now }
+    {
+        match floor_on(self.snapshot, self.ends, self.chain.as_slice()) {
+            Ok(floor) => self.can_prune_by(floor),
+            Err(FloorRefusal::NoRoute) => true,
+            Err(FloorRefusal::NotAChain) => unreachable!(),
+        }
+    }
+
+    // Whether the chain, which leads to the fix `here`, can be pruned, by its pursuit bound, or by its floor where the chart has no
+    // pursuit: no route that begins with it could then replace the incumbent. What it works on is kept out of the frames of the
+    // search, which goes deep.
     #[inline(never)]
     fn can_prune(&self, here: u16) -> bool
         requires { IsReady self.now here }
-        ensures { IsTrue result → HasPrunableChain self.now }
+        ensures sound { IsTrue result → HasPrunableChain self.now }
+        ensures reason { TellsReason self.now result }
     {
-        if let Some(pursuit) = self.pursuit {
-            let chain = ChainState {
-                end: here,
-                high: self.high,
-                flags: &self.flags,
-            };
-            return self.can_prune_by(bound(self.snapshot, self.ends, pursuit, &chain));
-        }
-        let list = self.chain.as_slice();
-        match floor_on(self.snapshot, self.ends, list) {
-            Err(FloorRefusal::NoRoute) => true,
-            Err(FloorRefusal::NotAChain) => false,
-            Ok(floor) => self.can_prune_by(floor),
+        match self.pursuit {
+            Some(pursuit) => self.can_prune_by_pursuit(pursuit, here),
+            None => self.can_prune_by_floor(),
         }
     }
 

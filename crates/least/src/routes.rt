@@ -2,9 +2,9 @@
 ghost use Rattle.std.specs.Prelude.{◌≡◌, ◌<◌, IfSome};
 ghost use Rattle.chart.specs.Regret.{query, LeastRegretIsUnique};
 ghost use Rattle.search.specs.Snapshots.{snapshot_fixes, snapshot_legs};
-ghost use Rattle.pursuit.specs.internal.Leads.{IsPursuit};
+ghost use Rattle.pursuit.specs.Answers.{IsPursuit};
 ghost use Rattle.least.specs.internal.BranchAndBound.{IsOptimal};
-ghost use Rattle.least.specs.Answers.{RouteAnswer};
+ghost use Rattle.least.specs.Answers.{route_outcome, IsRouteOutcome};
 
 use super::branch_and_bound::{BranchAndBound, Incumbent};
 use super::refusals::RouteRefusal;
@@ -75,8 +75,8 @@ pub fn least_regret<C: Chart>(
     ends: Ends,
     memory: &mut [u16],
 ) -> Result<FoundRoute, RouteRefusal>
-    ensures answers { RouteAnswer (query (C.legs chart.now) ends.from ends.to) (C.fixes chart.now)
-        memory.old result memory.new }
+    ensures answers { IsRouteOutcome (query (C.legs chart.now) ends.from ends.to) (C.fixes chart.now)
+        memory.old (route_outcome result) memory.new }
     ensures unique { LeastRegretIsUnique }
 {
     if memory.len() < most_legs(chart) as usize {

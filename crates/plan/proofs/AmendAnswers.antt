@@ -10,7 +10,8 @@ use Rattle.plan.specs.declared.amendment.Change.TheVariants.{Close, Times, Resto
 use Rattle.plan.specs.declared.filed.Filed.{Filed}
 use Rattle.plan.specs.declared.refusals.AmendRefusal.{AmendRefusal}
 use Rattle.plan.specs.Amendments.{changed_leg, restores}
-use Rattle.plan.specs.Ledgers.{Ledger, grounds, answer_by, ledger_by, insert_number, remove_number, amended_after, amended_by, amend_answer, ledger_after}
+use Rattle.plan.specs.Ledgers.{Ledger, grounds, outcome_by_grounds, ledger_by, insert_number, remove_number, amended_after, amended_by, outcome_on, ledger_after}
+use Rattle.plan.specs.Answers.{amend_outcome}
 use Rattle.plan.specs.Overlays.{overlay_leg, overlay, amended_numbers}
 use Rattle.plan.specs.Plans.{ledger_of}
 use Rattle.plan.specs.internal.AmendedLegs.{IsFirstGround, IsEntryOf, set_amended, ChangesOnlyAmended}
@@ -19,17 +20,17 @@ use Rattle.plan.proofs.InsertAndRemove.{overlay_insert, overlay_remove, numbers_
 use Rattle.plan.proofs.FirstGrounds.{restored_is_own}
 
 module _ (l : Ledger) (a : Amendment) where
-  pub refused_answer : (e : AmendRefusal) → IsFirstGround l a e → Err e ≡ amend_answer l a
-  unfolding amend_answer
-  refused_answer e f = sym (ap (λ gs. answer_by gs l.revision) f.1)
+  pub refused_answer : (e : AmendRefusal) → IsFirstGround l a e → amend_outcome (Err e) ≡ outcome_on l a
+  unfolding outcome_on
+  refused_answer e f = sym (ap (λ gs. outcome_by_grounds gs l.revision) f.1)
 
   pub refused_ledger : (own : List Leg) (e : AmendRefusal) → IsFirstGround l a e → l ≡ ledger_after own l a
   unfolding ledger_after
   refused_ledger own e f = sym (ap (λ gs. ledger_by gs own l a) f.1)
 
-  pub granted_answer : grounds l a ≡ [] → Ok (l.revision + 1) ≡ amend_answer l a
-  unfolding amend_answer
-  granted_answer f = sym (ap (λ gs. answer_by gs l.revision) f)
+  pub granted_answer : grounds l a ≡ [] → amend_outcome (Ok (l.revision + 1)) ≡ outcome_on l a
+  unfolding outcome_on
+  granted_answer f = sym (ap (λ gs. outcome_by_grounds gs l.revision) f)
 
   granted_ledger : (own : List Leg) → grounds l a ≡ [] → amended_by own l a ≡ ledger_after own l a
   unfolding ledger_after

@@ -1,3 +1,4 @@
 pub mod InsertAndRemove
 pub mod FirstGrounds
 pub mod AmendAnswers
+pub mod OneBestOutcome

@@ -8,8 +8,8 @@ use Rattle.chart.specs.Rows.{row_of_leg, leg_of}
 use Rattle.plan.specs.declared.amendment.Change.{Change}
 use Rattle.plan.specs.declared.amendment.Change.TheVariants.{Close, Times, Restore}
 
--- The numbers of a leg after a change, where `own` has the numbers of the chart's own leg. A closed leg keeps its times, new
--- times open the leg, and the top level is never amended.
+-- The numbers of a leg after a change, where `own` has those of the leg as the chart gives it. To close a leg leaves its times
+-- alone, new times open it, and no change alters the top level.
 abbrev pub changed_row : (own row : Row) → Change → Row
 changed_row own row Close = record row { standing = Closed }
 changed_row own row (Times times) = record row { low = times.low; high = times.high; standing = Open }

@@ -1,16 +1,18 @@
 -- A plan's ledger: what its amendments come to. It starts at filing, and is then kept from what is asked of the plan alone.
-use Rattle.std.specs.Prelude.{ℕ, ◌+◌, ◌==◌, ◌&&◌, ◌||◌, not, nat_lt, nat_le, Bool, false, cond, List, [], ◌∷◌, ◌++◌, length, slice_set, Ok, Err, Result}
+use Rattle.std.specs.Prelude.{ℕ, ◌+◌, ◌==◌, ◌&&◌, ◌||◌, not, nat_lt, nat_le, Bool, false, cond, List, [], ◌∷◌, ◌++◌, length, slice_set}
 use Rattle.std.specs.List.{filter, list_any}
 use Rattle.chart.specs.declared.leg.Leg.{Leg}
 use Rattle.chart.specs.declared.Ends.{Ends}
 use Rattle.chart.specs.Legs.{leg_at}
 use Rattle.chart.specs.Limits.{max_seconds}
+use Rattle.chart.specs.Outcomes.{Outcome, values, refused}
 use Rattle.chart.specs.Regret.{Query, query}
 use Rattle.plan.specs.declared.amendment.Change.{Change}
 use Rattle.plan.specs.declared.amendment.Change.TheVariants.{Close, Times, Restore}
 use Rattle.plan.specs.declared.amendment.Amendment.{Amendment}
 use Rattle.plan.specs.declared.refusals.AmendRefusal.{AmendRefusal}
 use Rattle.plan.specs.declared.refusals.AmendRefusal.TheVariants.{NoSuchLeg, BadTimes, LastRevision, OtherRevision, NotAmended, NoPlace}
+use Rattle.plan.specs.Refusals.{amend_number}
 use Rattle.plan.specs.Limits.{max_amended, last_revision}
 use Rattle.plan.specs.Amendments.{changed_leg, restores}
 
@@ -77,19 +79,19 @@ amended_by own l a = record l {
   amended = amended_after l.amended a.leg a.change;
 }
 
--- what is answered where these grounds apply: the first of them, or the next revision where there are none
-abbrev pub answer_by : List AmendRefusal → ℕ → Result ℕ AmendRefusal
-answer_by [] revision = Ok (revision + 1)
-answer_by (first ∷ more) revision = Err first
+-- the outcome where these grounds apply: the number of the first, or the next revision where there are none
+abbrev pub outcome_by_grounds : List AmendRefusal → ℕ → Outcome
+outcome_by_grounds [] revision = values ((revision + 1) ∷ [])
+outcome_by_grounds (first ∷ more) revision = refused (amend_number first)
 
 -- the ledger where these grounds apply: what it was, or amended where there are none
 abbrev pub ledger_by : List AmendRefusal → List Leg → Ledger → Amendment → Ledger
 ledger_by [] own l a = amended_by own l a
 ledger_by (first ∷ more) own l a = l
 
--- what an amendment is answered
-unfoldable pub amend_answer : Ledger → Amendment → Result ℕ AmendRefusal
-amend_answer l a = answer_by (grounds l a) l.revision
+-- the outcome of an amendment on a ledger
+unfoldable pub outcome_on : Ledger → Amendment → Outcome
+outcome_on l a = outcome_by_grounds (grounds l a) l.revision
 
 -- the ledger after an amendment, granted or not
 unfoldable pub ledger_after : List Leg → Ledger → Amendment → Ledger

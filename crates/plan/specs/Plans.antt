@@ -31,7 +31,7 @@ abbrev pub revision_of : {C : Type 0} → Filed C → ℕ
 revision_of plan = plan.revision
 
 -- the status that is left of a closed plan
-abbrev pub status_at_close : Closed → Status
+abbrev pub status_at_close : {C : Type 0} → Closed C → Status
 status_at_close closed = closed.status
 
 -- the legs of a plan on a chart whose own legs `legs` gives

@@ -2,6 +2,7 @@
 ghost use Rattle.std.specs.Prelude.{◌≡◌};
 
 use chart::Ends;
+use std::marker::PhantomData;
 
 /// What a plan answers of itself.
 #[derive(Clone, Copy, Debug, PartialEq, Eq)]
@@ -14,14 +15,15 @@ pub struct Status {
     pub ends: Ends,
 }
 
-/// A plan that is closed. Only its status is left: its chart was given back. It has no call that routes or amends, and like the
-/// other states of a plan it is moved and not copied.
+/// A plan on a chart of the type `C` that is closed. Only its status is left: its chart was given back. It has no call that routes
+/// or amends, and like the other states of a plan it is moved and not copied.
 #[derive(Drop)]
-pub struct Closed {
+pub struct Closed<C> {
     pub(crate) status: Status,
+    pub(crate) of: PhantomData<C>,
 }
 
-impl Closed {
+impl<C> Closed<C> {
     ghost use Rattle.plan.specs.Plans.{status_at_close};
 
     /// The status that the plan had when it was closed. It is never refused.

@@ -16,7 +16,7 @@ pub struct Draft<C> {
 impl<C: Chart> Draft<C> {
     ghost use Rattle.plan.specs.Ledgers.{at_filing};
     ghost use Rattle.plan.specs.Plans.{chart_of_draft, ends_of_draft, HasNewEnds, chart_of, ledger_of};
-    ghost use Rattle.plan.specs.Answers.{EndsRefused, AreValidEnds};
+    ghost use Rattle.plan.specs.Answers.{ends_outcome, IsEndsOutcome};
 
     /// A draft on a chart. It runs from the chart's first fix to its last, until other ends are set.
     pub fn new(chart: C) -> Draft<C>
@@ -34,10 +34,10 @@ impl<C: Chart> Draft<C> {
     /// Sets the ends to two different fixes. It is refused with 11 where one of them is no fix of the chart, and with 12 where
     /// both are the same; the draft then keeps the ends that it had.
     pub fn ends(&mut self, departure: u16, destination: u16) -> Result<(), EndsRefusal>
-        ensures { MatchResult result
-            (λ _. AreValidEnds (C.fixes (chart_of_draft self.old)) departure destination
-            × HasNewEnds self.old self.new departure destination)
-            (λ e. EndsRefused (C.fixes (chart_of_draft self.old)) departure destination e × (self.new ≡ self.old)) }
+        ensures outcome { IsEndsOutcome (C.fixes (chart_of_draft self.old)) departure destination (ends_outcome result) }
+        ensures sets_the_ends { MatchResult result
+            (λ _. HasNewEnds self.old self.new departure destination)
+            (λ _. self.new ≡ self.old) }
     {
         let n = self.chart.n();
         if departure >= n || destination >= n {

@@ -1,10 +1,9 @@
 // A filed plan: how it is amended, what it is asked on its legs as they stand amended, and what it is as a chart.
 ghost use Rattle.std.specs.Prelude.{◌≡◌, ◌≤◌, false, OnErr, OnOk};
 ghost use Rattle.std.specs.Option.{ForSome};
-ghost use Rattle.chart.specs.Kinds.{level_rule, quickest_rule};
-ghost use Rattle.regret.specs.Answers.{RegretAnswer};
-ghost use Rattle.floor.specs.Answers.{FloorAnswer};
-ghost use Rattle.least.specs.Answers.{RouteAnswer};
+ghost use Rattle.regret.specs.Answers.{regret_outcome, IsRegretOutcome};
+ghost use Rattle.floor.specs.Answers.{floor_outcome, IsFloorOutcome};
+ghost use Rattle.least.specs.Answers.{route_outcome, IsRouteOutcome};
 ghost use Rattle.plan.specs.Limits.{last_revision};
 
 use super::amendment::{AmendedLeg, Amendment, LAST_REVISION, MAX_AMENDED};
@@ -16,6 +15,7 @@ use floor::{FloorRefusal, floor};
 use least::{FoundRoute, RouteRefusal, least_regret};
 use regret::{RegretRefusal, regret};
 use search::best;
+use std::marker::PhantomData;
 
 /// A filed plan: a chart, two ends, and the legs that stand amended, in the order in which they were inserted. They stand in an
 /// array of fixed room, so that no call fails for want of memory.
@@ -72,9 +72,9 @@ impl<C> Filed<C> {
 
 impl<C: Chart> Filed<C> {
     ghost use Rattle.plan.specs.Amendments.{ChangeHasValidTimes, restores};
-    ghost use Rattle.plan.specs.Ledgers.{query_of, amend_answer, ledger_after};
+    ghost use Rattle.plan.specs.Ledgers.{query_of, outcome_on, ledger_after};
     ghost use Rattle.plan.specs.Plans.{chart_of, ledger_of, status_of, status_at_close};
-    ghost use Rattle.plan.specs.Answers.{BestAnswer};
+    ghost use Rattle.plan.specs.Answers.{amend_outcome, quickest_outcome, level_outcome, IsQuickestOutcome, IsLevelOutcome};
     ghost use Rattle.plan.specs.internal.AmendedLegs.{HasRoom, IsCheckResult};
 
     // The plan's leg that is to be amended, or the first ground that refuses the amendment.
@@ -113,7 +113,7 @@ impl<C: Chart> Filed<C> {
     /// last revision, 21 where the plan stands at another revision than the one given, 24 where the leg to be restored does not
     /// stand amended, and 23 where `MAX_AMENDED` legs stand amended and this is none of them. The plan then stays what it was.
     pub fn amend(&mut self, amendment: Amendment) -> Result<u16, AmendRefusal>
-        ensures answer { result ≡ amend_answer (ledger_of C.legs self.old) amendment }
+        ensures answer { amend_outcome result ≡ outcome_on (ledger_of C.legs self.old) amendment }
         ensures ledger { ledger_of C.legs self.new
             ≡ ledger_after (C.legs (chart_of self.old)) (ledger_of C.legs self.old) amendment }
         ensures chart { chart_of self.new ≡ chart_of self.old }
@@ -131,15 +131,15 @@ impl<C: Chart> Filed<C> {
     /// the longest route could have legs, one fewer than there are fixes, and else with 25 where there is no route; the memory
     /// then holds what it held.
     pub fn route(&self, memory: &mut [u16]) -> Result<FoundRoute, RouteRefusal>
-        ensures { RouteAnswer (query_of (ledger_of C.legs self.now)) (C.fixes (chart_of self.now))
-            memory.old result memory.new }
+        ensures { IsRouteOutcome (query_of (ledger_of C.legs self.now)) (C.fixes (chart_of self.now))
+            memory.old (route_outcome result) memory.new }
     {
         least_regret(self, self.ends, memory)
     }
 
     /// The regret of a list of legs, in seconds. It is refused with 14 where the list is no route between the ends.
     pub fn regret(&self, list: &[u16]) -> Result<u32, RegretRefusal>
-        ensures { RegretAnswer (query_of (ledger_of C.legs self.now)) list.now result }
+        ensures { IsRegretOutcome (query_of (ledger_of C.legs self.now)) list.now (regret_outcome result) }
     {
         regret(self, self.ends, list)
     }
@@ -147,7 +147,7 @@ impl<C: Chart> Filed<C> {
     /// The floor of a list of legs, in seconds: every route that begins with the list has at least this regret. It is refused with
     /// 14 where the list is no chain that leaves the departure, and else with 25 where no route begins with it.
     pub fn floor(&self, chain: &[u16]) -> Result<u32, FloorRefusal>
-        ensures { FloorAnswer (query_of (ledger_of C.legs self.now)) chain.now result }
+        ensures { IsFloorOutcome (query_of (ledger_of C.legs self.now)) chain.now (floor_outcome result) }
     {
         floor(self, self.ends, chain)
     }
@@ -155,14 +155,14 @@ impl<C: Chart> Filed<C> {
     /// The fewest seconds at high times of any route between the ends, and the fewest legs of those routes. It is refused with
     /// 25 where there is no route.
     pub fn quickest(&self) -> Result<QuickestTotal, BestRefusal>
-        ensures { BestAnswer quickest_rule (query_of (ledger_of C.legs self.now)) result }
+        ensures { IsQuickestOutcome (query_of (ledger_of C.legs self.now)) (quickest_outcome result) }
     {
         best(self, &Quickest, self.ends).ok_or(BestRefusal::NoRoute)
     }
 
     /// The highest level of any route between the ends, in hundreds of feet. It is refused with 25 where there is no route.
     pub fn level(&self) -> Result<u16, BestRefusal>
-        ensures { BestAnswer level_rule (query_of (ledger_of C.legs self.now)) result }
+        ensures { IsLevelOutcome (query_of (ledger_of C.legs self.now)) (level_outcome result) }
     {
         best(self, &Level, self.ends).ok_or(BestRefusal::NoRoute)
     }
@@ -179,12 +179,16 @@ impl<C: Chart> Filed<C> {
     }
 
     /// Ends the plan: its status is kept to be read, and its chart is given back as it was filed. It is never refused.
-    pub fn close(self) -> (Closed, C)
+    pub fn close(self) -> (Closed<C>, C)
         ensures status { status_at_close result.0 ≡ status_of (ledger_of C.legs self) }
         ensures chart { result.1 ≡ chart_of self }
     {
         let status = self.status();
-        (Closed { status }, self.chart)
+        let closed = Closed {
+            status,
+            of: PhantomData,
+        };
+        (closed, self.chart)
     }
 }
 

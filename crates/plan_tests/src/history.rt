@@ -4,7 +4,7 @@ use super::small_charts::{DENSE, FOUR_FIXES, PARALLEL, SIX_FIXES, all_lists, dra
 use super::tracked_plan::{Tally, TrackedPlan};
 use anyhow::{Context, ensure};
 use chart::{Chart, Ends, Lattice, Row, Step, Table};
-use reference::{Turns, grid_rows};
+use listing::{Turns, grid_rows};
 use std::alloc::Global;
 
 // How many runs a history has.

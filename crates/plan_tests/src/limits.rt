@@ -7,7 +7,7 @@ use plan::Change;
 use reference::Batch;
 use std::alloc::{AllocError, Global};
 
-// How many legs the chart has, in turn from fix 0 to fix 1 and from there to fix 2.
+// How many legs the chart has, alternately from fix 0 to fix 1 and from there to fix 2.
 const LEGS: u16 = 70;
 
 // How many of them are amended at first. Each of these has one time, so that the listing stays short.

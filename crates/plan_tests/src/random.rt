@@ -1,7 +1,8 @@
 // Times and amendments that are drawn, the same in every run.
 use chart::Interval;
+use listing::DrawnNumbers;
 use plan::{Amendment, Change};
-use reference::{DrawnNumbers, Ledger};
+use reference::Ledger;
 
 // Numbers that are drawn, and what is made of them.
 #[derive(Clone, Copy)]

@@ -1,7 +1,7 @@
 // Small charts of open legs, and the lists of legs that are asked of.
 use super::random::Random;
 use chart::{Ends, Row, Standing};
-use reference::all_chains;
+use listing::all_chains;
 use std::alloc::{AllocError, Global};
 
 // A leg: from, to, low, high, top.

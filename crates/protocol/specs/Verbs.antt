@@ -1,7 +1,7 @@
 -- The word that each command begins with.
 use Rattle.std.specs.Prelude.{ℕ, List, codes}
 use Rattle.protocol.specs.declared.command.Verb.{Verb}
-use Rattle.protocol.specs.declared.command.Verb.TheVariants.{Chart, Lattice, Name, Draft, Ends, File, Amend, Route, Regret, Floor, Quickest, Level, Status, Close}
+use Rattle.protocol.specs.declared.command.Verb.TheVariants.{Chart, Lattice, Name, Draft, Ends, File, Amend, Route, Regret, Floor, Quickest, Level, Status, Close, Picture}
 
 abbrev pub verb_word : Verb → List ℕ
 verb_word Chart = codes "chart"
@@ -18,3 +18,4 @@ verb_word Quickest = codes "quickest"
 verb_word Level = codes "level"
 verb_word Status = codes "status"
 verb_word Close = codes "close"
+verb_word Picture = codes "picture"

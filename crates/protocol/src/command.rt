@@ -9,20 +9,36 @@ use std::fmt;
 /// The word that a command begins with, and each rejection of it. It prints that word.
 #[derive(Clone, Copy, Debug, PartialEq, Eq)]
 pub enum Verb {
+    /// `chart`: the chart of a file.
     Chart,
+    /// `lattice`: a lattice.
     Lattice,
+    /// `name`: the name of a fix.
     Name,
+    /// `draft`: a draft on the current chart.
     Draft,
+    /// `ends`: the ends of a draft.
     Ends,
+    /// `file`: the filing of a draft.
     File,
+    /// `amend`: an amendment of a filed plan.
     Amend,
+    /// `route`: the route of least regret.
     Route,
+    /// `regret`: the regret of a list of legs.
     Regret,
+    /// `floor`: the floor of a chain.
     Floor,
+    /// `quickest`: the least total of seconds.
     Quickest,
+    /// `level`: the highest level.
     Level,
+    /// `status`: what a plan tells of itself.
     Status,
+    /// `close`: the end of a filed plan.
     Close,
+    /// `picture`: a drawing of the chart of a filed plan.
+    Picture,
 }
 
 impl Verb {
@@ -46,6 +62,7 @@ impl Verb {
             "level" => Verb::Level,
             "status" => Verb::Status,
             "close" => Verb::Close,
+            "picture" => Verb::Picture,
             _ => return None,
         })
     }
@@ -70,6 +87,7 @@ impl fmt::Display for Verb {
             Verb::Level => "level",
             Verb::Status => "status",
             Verb::Close => "close",
+            Verb::Picture => "picture",
         })
     }
 }
@@ -98,15 +116,21 @@ pub enum Command<'a> {
     Name { fix: u16 },
     /// Something of the plan of a number.
     Plan { plan: u16, command: PlanCommand },
+    /// A drawing of the filed plan's chart, to be written to the path.
+    Picture { plan: u16, path: &'a str },
 }
 
 /// A lattice that is asked for, before any check: its numbers of rows and columns, the top level of its legs, and for each step
 /// the intervals of its turns in seconds.
 #[derive(Drop)]
 pub struct LatticeRequest {
+    /// The number of rows.
     pub rows: u16,
+    /// The number of columns.
     pub columns: u16,
+    /// The top level of each leg, in hundreds of feet.
     pub top: u16,
+    /// The intervals from each column to the next, in the order of the columns.
     pub steps: Vec<Step>,
 }
 
@@ -132,7 +156,7 @@ pub enum PlanCall {
     Amend(Amendment),
     /// The route of least regret. Where no number of places is given it takes as many as it can need.
     Route { places: Option<u16> },
-    /// The regret of a list of legs, in seconds.
+    /// The regret of a list of legs, in seconds. The list may be empty, and is then no route.
     Regret(Vec<u16>),
     /// The floor of a list of legs, in seconds.
     Floor(Vec<u16>),

@@ -1,9 +1,12 @@
 // How a line of a script is taken apart.
+ghost use Rattle.std.specs.Prelude.{◌≡◌, ◌==◌, IfOk, slice_index};
+ghost use Rattle.protocol.specs.Lines.{IsWordsOf, SaysNumber, SaysNumbers, SaysTimes, SaysInterval, SaysStep, SaysSteps, SaysChange, SaysAmendment, SaysPlaces, SaysPlanCommand, SaysLattice, SaysOfPlan, SaysCommand, SaysLine, Words};
+ghost use Rattle.protocol.specs.internal.Parses.{Parses, plus};
+
 use super::command::{Command, LatticeRequest, Line, PlanCall, PlanCommand, Verb};
 use chart::{Ends, Interval, Step};
 use plan::{Amendment, Change};
 use std::alloc::{AllocError, Global};
-use std::str::FromStr;
 
 // Why a line is not taken apart.
 #[derive(Drop)]
@@ -13,63 +16,102 @@ enum ParseError {
 }
 
 impl From<AllocError> for ParseError {
+    ghost use Rattle.protocol.specs.declared.parsing.ParseError.TheVariants.{NoMemory};
+
+    ghost from_gives = { λ error e. e ≡ NoMemory error };
+
     fn from(error: AllocError) -> ParseError {
         ParseError::NoMemory(error)
     }
 }
 
-// A number is written in decimal digits alone.
-fn parse_number<N: FromStr>(word: &str) -> Result<N, ParseError>
-where
-    N::Err: Drop,
+// Whether a plus stands first, which `parse` would take. A number is written in decimal digits alone.
+fn has_plus(word: &str) -> bool
+    ensures { result ≡ (slice_index word.now 0 == plus) }
 {
-    if !word.bytes().all(|byte| byte.is_ascii_digit()) {
-        return Err(ParseError::Malformed);
-    }
-    word.parse::<N>().map_err(|_error| ParseError::Malformed)
+    word.starts_with('+')
 }
 
-fn parse_numbers(alloc: Global, words: &[&str]) -> Result<Vec<u16>, ParseError> {
+// A number of 16 bits.
+fn parse_u16(word: &str) -> Result<u16, ParseError>
+    ensures { Parses (SaysNumber 16 word.now) result }
+{
+    if has_plus(word) {
+        return Err(ParseError::Malformed);
+    }
+    word.parse::<u16>().map_err(|_error| ParseError::Malformed)
+}
+
+// A number of 32 bits.
+fn parse_u32(word: &str) -> Result<u32, ParseError>
+    ensures { Parses (SaysNumber 32 word.now) result }
+{
+    if has_plus(word) {
+        return Err(ParseError::Malformed);
+    }
+    word.parse::<u32>().map_err(|_error| ParseError::Malformed)
+}
+
+// A list of numbers of 16 bits.
+fn parse_numbers(alloc: Global, words: &[&str]) -> Result<Vec<u16>, ParseError>
+    ensures { Parses (λ list. SaysNumbers words.now list.items) result }
+{
     let mut list = Vec::new(alloc);
     for word in words {
-        list.push(parse_number(word)?).map_err(AllocError::from)?;
+        list.push(parse_u16(word)?).map_err(AllocError::from)?;
     }
     Ok(list)
 }
 
 // Two words for an interval.
-fn parse_times(low: &str, high: &str) -> Result<Interval, ParseError> {
+fn parse_times(low: &str, high: &str) -> Result<Interval, ParseError>
+    ensures { Parses (SaysTimes low.now high.now) result }
+{
     Ok(Interval {
-        low: parse_number(low)?,
-        high: parse_number(high)?,
+        low: parse_u32(low)?,
+        high: parse_u32(high)?,
     })
 }
 
 // One word for an interval: LOW-HIGH.
-fn parse_interval(word: &str) -> Result<Interval, ParseError> {
+fn parse_interval(word: &str) -> Result<Interval, ParseError>
+    ensures { Parses (SaysInterval word.now) result }
+{
     let (low, high) = word.split_once('-').ok_or(ParseError::Malformed)?;
     parse_times(low, high)
 }
 
-// Three intervals for each step, of which there is one at least.
-fn parse_steps(alloc: Global, words: &[&str]) -> Result<Vec<Step>, ParseError> {
-    let mut steps = Vec::new(alloc);
-    let (turns @ [_, ..], []) = words.as_chunks::<3>() else {
+// Three words for the intervals of a step.
+fn parse_step(back: &str, ahead: &str, on: &str) -> Result<Step, ParseError>
+    ensures { Parses (SaysStep back.now ahead.now on.now) result }
+{
+    let turns = [
+        parse_interval(back)?,
+        parse_interval(ahead)?,
+        parse_interval(on)?,
+    ];
+    Ok(Step { turns })
+}
+
+// Three words for each step.
+fn parse_steps(alloc: Global, words: &[&str]) -> Result<Vec<Step>, ParseError>
+    ensures { Parses (λ steps. SaysSteps words.now steps.items) result }
+{
+    if words.len() % 3 != 0 {
         return Err(ParseError::Malformed);
-    };
-    for [back, ahead, on] in turns {
-        let turns = [
-            parse_interval(back)?,
-            parse_interval(ahead)?,
-            parse_interval(on)?,
-        ];
-        steps.push(Step { turns }).map_err(AllocError::from)?;
+    }
+    let mut steps = Vec::new(alloc);
+    for k in 0..words.len() / 3 {
+        let step = parse_step(words[3 * k], words[3 * k + 1], words[3 * k + 2])?;
+        steps.push(step).map_err(AllocError::from)?;
     }
     Ok(steps)
 }
 
 // What the words after the leg of an amendment say.
-fn parse_change(words: &[&str]) -> Result<Change, ParseError> {
+fn parse_change(words: &[&str]) -> Result<Change, ParseError>
+    ensures { Parses (SaysChange words.now) result }
+{
     match *words {
         ["close"] => Ok(Change::Close),
         ["times", low, high] => Ok(Change::Times(parse_times(low, high)?)),
@@ -78,39 +120,85 @@ fn parse_change(words: &[&str]) -> Result<Change, ParseError> {
     }
 }
 
+// The words after the number of a plan that is to be amended.
+fn parse_amendment(words: &[&str]) -> Result<Amendment, ParseError>
+    ensures { Parses (SaysAmendment words.now) result }
+{
+    let [revision, leg, change @ ..] = words else {
+        return Err(ParseError::Malformed);
+    };
+    Ok(Amendment {
+        revision: parse_u16(revision)?,
+        leg: parse_u16(leg)?,
+        change: parse_change(change)?,
+    })
+}
+
+// The number of places for a route, which need not be said.
+fn parse_places(words: &[&str]) -> Result<Option<u16>, ParseError>
+    ensures { Parses (SaysPlaces words.now) result }
+{
+    match *words {
+        [] => Ok(None),
+        [places] => Ok(Some(parse_u16(places)?)),
+        _ => Err(ParseError::Malformed),
+    }
+}
+
 // What the words after the number of a plan say.
-fn parse_plan_command(
+fn parse_plan_command(alloc: Global, verb: Verb, words: &[&str]) -> Result<PlanCommand, ParseError>
+    ensures { Parses (SaysPlanCommand verb words.now) result }
+{
+    match (verb, words) {
+        (Verb::Draft, []) => Ok(PlanCommand::Draft),
+        (Verb::Ends, [departure, destination]) => Ok(PlanCommand::Ends(Ends {
+            from: parse_u16(departure)?,
+            to: parse_u16(destination)?,
+        })),
+        (Verb::File, []) => Ok(PlanCommand::File),
+        (Verb::Amend, _) => Ok(PlanCommand::Call(PlanCall::Amend(parse_amendment(words)?))),
+        (Verb::Route, _) => Ok(PlanCommand::Call(PlanCall::Route {
+            places: parse_places(words)?,
+        })),
+        (Verb::Regret, _) => Ok(PlanCommand::Call(PlanCall::Regret(parse_numbers(alloc, words)?))),
+        (Verb::Floor, _) => Ok(PlanCommand::Call(PlanCall::Floor(parse_numbers(alloc, words)?))),
+        (Verb::Quickest, []) => Ok(PlanCommand::Call(PlanCall::Quickest)),
+        (Verb::Level, []) => Ok(PlanCommand::Call(PlanCall::Level)),
+        (Verb::Status, []) => Ok(PlanCommand::Call(PlanCall::Status)),
+        (Verb::Close, []) => Ok(PlanCommand::Close),
+        _ => Err(ParseError::Malformed),
+    }
+}
+
+// The words after the verb of a lattice.
+fn parse_lattice(alloc: Global, words: &[&str]) -> Result<LatticeRequest, ParseError>
+    ensures { Parses (SaysLattice words.now) result }
+{
+    let [rows, columns, top, intervals @ ..] = words else {
+        return Err(ParseError::Malformed);
+    };
+    Ok(LatticeRequest {
+        rows: parse_u16(rows)?,
+        columns: parse_u16(columns)?,
+        top: parse_u16(top)?,
+        steps: parse_steps(alloc, intervals)?,
+    })
+}
+
+// The words after the verb of a command to a plan.
+fn parse_of_plan<'a>(
     alloc: Global,
     verb: Verb,
-    words: &[&str],
-) -> Result<PlanCommand, ParseError> {
-    Ok(match (verb, words) {
-        (Verb::Draft, []) => PlanCommand::Draft,
-        (Verb::Ends, [departure, destination]) => PlanCommand::Ends(Ends {
-            from: parse_number(departure)?,
-            to: parse_number(destination)?,
-        }),
-        (Verb::File, []) => PlanCommand::File,
-        (Verb::Amend, [revision, leg, words @ ..]) => PlanCommand::Call(PlanCall::Amend(
-            Amendment {
-                revision: parse_number(revision)?,
-                leg: parse_number(leg)?,
-                change: parse_change(words)?,
-            },
-        )),
-        (Verb::Route, []) => PlanCommand::Call(PlanCall::Route { places: None }),
-        (Verb::Route, [places]) => PlanCommand::Call(PlanCall::Route {
-            places: Some(parse_number(places)?),
-        }),
-        (Verb::Regret, [_, ..]) => PlanCommand::Call(PlanCall::Regret(parse_numbers(
-            alloc, words,
-        )?)),
-        (Verb::Floor, _) => PlanCommand::Call(PlanCall::Floor(parse_numbers(alloc, words)?)),
-        (Verb::Quickest, []) => PlanCommand::Call(PlanCall::Quickest),
-        (Verb::Level, []) => PlanCommand::Call(PlanCall::Level),
-        (Verb::Status, []) => PlanCommand::Call(PlanCall::Status),
-        (Verb::Close, []) => PlanCommand::Close,
-        _ => return Err(ParseError::Malformed),
+    words: &[&'a str],
+) -> Result<Command<'a>, ParseError>
+    ensures { Parses (SaysOfPlan verb words.now) result }
+{
+    let [plan, words @ ..] = words else {
+        return Err(ParseError::Malformed);
+    };
+    Ok(Command::Plan {
+        plan: parse_u16(plan)?,
+        command: parse_plan_command(alloc, verb, words)?,
     })
 }
 
@@ -119,33 +207,29 @@ fn parse_command<'a>(
     alloc: Global,
     verb: Verb,
     words: &[&'a str],
-) -> Result<Command<'a>, ParseError> {
+) -> Result<Command<'a>, ParseError>
+    ensures { Parses (SaysCommand verb words.now) result }
+{
     match (verb, words) {
         (Verb::Chart, [path]) => Ok(Command::Chart { path }),
-        (Verb::Lattice, [rows, columns, top, intervals @ ..]) => Ok(Command::Lattice(
-            LatticeRequest {
-                rows: parse_number(rows)?,
-                columns: parse_number(columns)?,
-                top: parse_number(top)?,
-                steps: parse_steps(alloc, intervals)?,
-            },
-        )),
         (Verb::Name, [fix]) => Ok(Command::Name {
-            fix: parse_number(fix)?,
+            fix: parse_u16(fix)?,
         }),
-        (_, [plan, words @ ..]) => Ok(Command::Plan {
-            plan: parse_number(plan)?,
-            command: parse_plan_command(alloc, verb, words)?,
+        (Verb::Picture, [plan, path]) => Ok(Command::Picture {
+            plan: parse_u16(plan)?,
+            path,
         }),
-        _ => Err(ParseError::Malformed),
+        (Verb::Lattice, _) => Ok(Command::Lattice(parse_lattice(alloc, words)?)),
+        (Verb::Chart | Verb::Name | Verb::Picture, _) => Err(ParseError::Malformed),
+        _ => parse_of_plan(alloc, verb, words),
     }
 }
 
-/// What a line of a script says. A comment is an empty line, or one whose first word begins with a hash sign. Words are parted by
-/// white space. Nothing is rejected here: a line whose words say no command is `Malformed` or `Unknown`, and an error is want of memory.
-pub fn parse_line(alloc: Global, line: &str) -> Result<Line<'_>, AllocError> {
-    let words: Vec<&str> = line.split_whitespace().collect(alloc)?;
-    let Some((first, words)) = words.split_first() else {
+// What the words of a line say.
+fn read_words<'a>(alloc: Global, words: &[&'a str]) -> Result<Line<'a>, AllocError>
+    ensures { IfOk result (SaysLine words.now) }
+{
+    let [first, words @ ..] = words else {
         return Ok(Line::Comment);
     };
     if first.starts_with('#') {
@@ -159,4 +243,13 @@ pub fn parse_line(alloc: Global, line: &str) -> Result<Line<'_>, AllocError> {
         Err(ParseError::Malformed) => Ok(Line::Malformed(verb)),
         Err(ParseError::NoMemory(error)) => Err(error),
     }
+}
+
+/// What a line of a script says. A comment is an empty line, or one whose first word begins with a hash sign. Words are parted by
+/// white space. Nothing is rejected here: a line whose words say no command is `Malformed` or `Unknown`, and an error is want of memory.
+pub fn parse_line(alloc: Global, line: &str) -> Result<Line<'_>, AllocError>
+    ensures says { IfOk result (λ said. (words : Words) × IsWordsOf line.now words × SaysLine words said) }
+{
+    let words: Vec<&str> = line.split_whitespace().collect(alloc)?;
+    read_words(alloc, &words)
 }

@@ -1,5 +1,7 @@
 // Why commands are not granted, with the refusals of all of them as one type.
-ghost use Rattle.std.specs.Prelude.{Some};
+ghost use Rattle.std.specs.Prelude.{◌≡◌, Some};
+ghost use Rattle.protocol.specs.declared.rejection.Rejection.TheVariants.{Refused, Fault};
+ghost use Rattle.protocol.specs.declared.rejection.CommandError.TheVariants.{Rejected, NoMemory};
 ghost use Rattle.protocol.specs.Refusals.{any_refusal_number, any_refusal_words};
 ghost use Rattle.protocol.specs.ReplyTexts.{rejection_text};
 
@@ -80,6 +82,8 @@ pub enum Rejection<'a> {
     Fault(ChartFault),
     /// There is no file at the path that can be read.
     Unreadable { path: &'a str },
+    /// No file can be written to the path.
+    Unwritable { path: &'a str },
     /// There is no such plan, or it is not in the state that the command needs; or there is no chart for it.
     WrongState,
     /// Words are missing, too many, or no numbers of their width.
@@ -102,6 +106,7 @@ impl fmt::Display for Rejection<'_> {
                 )
             }
             Rejection::Unreadable { path } => write!(f, "unreadable {path}"),
+            Rejection::Unwritable { path } => write!(f, "unwritable {path}"),
             Rejection::WrongState => f.write_str("out of turn"),
             Rejection::Malformed => f.write_str("malformed"),
         }
@@ -111,29 +116,39 @@ impl fmt::Display for Rejection<'_> {
 /// Why a command has no answer: it is rejected, or there is no memory for it, which ends the program.
 #[derive(Drop)]
 pub enum CommandError<'a> {
+    /// The command changed nothing.
     Rejected(Rejection<'a>),
+    /// There is no memory for its answer.
     NoMemory(AllocError),
 }
 
 impl<'a> From<Rejection<'a>> for CommandError<'a> {
+    ghost from_gives = { λ why e. e ≡ Rejected why };
+
     fn from(why: Rejection<'a>) -> CommandError<'a> {
         CommandError::Rejected(why)
     }
 }
 
 impl From<AnyRefusal> for CommandError<'_> {
+    ghost from_gives = { λ refusal e. e ≡ Rejected (Refused refusal) };
+
     fn from(refusal: AnyRefusal) -> Self {
         CommandError::Rejected(Rejection::Refused(refusal))
     }
 }
 
 impl From<ChartFault> for CommandError<'_> {
+    ghost from_gives = { λ fault e. e ≡ Rejected (Fault fault) };
+
     fn from(fault: ChartFault) -> Self {
         CommandError::Rejected(Rejection::Fault(fault))
     }
 }
 
 impl From<AllocError> for CommandError<'_> {
+    ghost from_gives = { λ error e. e ≡ NoMemory error };
+
     fn from(error: AllocError) -> Self {
         CommandError::NoMemory(error)
     }

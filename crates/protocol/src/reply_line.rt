@@ -1,5 +1,6 @@
 // The line that is replied to a line of a script: the answer to a command that is granted, and why another is not.
-ghost use Rattle.std.specs.Prelude.{Some};
+ghost use Rattle.std.specs.Prelude.{◌≡◌, Some};
+ghost use Rattle.protocol.specs.Replies.{reply_of};
 ghost use Rattle.protocol.specs.ReplyTexts.{list_text, counts_text, status_text, answer_text, reply_line_text};
 
 use super::command::Verb;
@@ -41,6 +42,8 @@ pub enum Answer {
     Status(Status),
     /// The plan is closed.
     Close,
+    /// The drawing, which is SVG.
+    Picture { svg: String },
 }
 
 // Numbers, each after a space.
@@ -114,6 +117,7 @@ impl fmt::Display for Answer {
             Answer::Level(level) => write!(f, "level {level}"),
             Answer::Status(status) => write!(f, "status {}", StatusText(*status)),
             Answer::Close => f.write_str("close"),
+            Answer::Picture { svg } => write!(f, "picture {} bytes", svg.len()),
         }
     }
 }
@@ -134,7 +138,9 @@ impl<'a> ReplyLine<'a> {
     pub fn of(
         verb: Verb,
         outcome: Result<Answer, CommandError<'a>>,
-    ) -> Result<ReplyLine<'a>, AllocError> {
+    ) -> Result<ReplyLine<'a>, AllocError>
+        ensures { result ≡ reply_of verb outcome.entry }
+    {
         match outcome {
             Ok(answer) => Ok(ReplyLine::Granted(answer)),
             Err(CommandError::Rejected(why)) => Ok(ReplyLine::Rejected { verb, why }),

@@ -9,12 +9,12 @@ use Rattle.chart.proofs.Chains.{leads_on, in_append_left}
 use Rattle.regret.proofs.WorstChoice.{in_or, time_same}
 use Rattle.regret.proofs.EveryRouteHasRegret.{worst_of, worst_is}
 use Rattle.search.proofs.WalkedChains.{time_join}
-use Rattle.floor.proofs.JoinedLists.{in_append_right, in_append}
+use Rattle.chart.proofs.Chains.{in_append_right, in_append}
 use Rattle.pursuit.specs.Rivals.{IsRouteLeg, IsRivalLeg, IsPath}
 use Rattle.pursuit.specs.Pursuits.{IsPursuitBound, PursuitBoundIsBelowEveryRegret}
 use Rattle.pursuit.proofs.Paths.{path_join, path_leaves, path_leaves_below, leads_path, route_legs, route_leg_is_rival_leg}
 use Rattle.pursuit.proofs.RivalsAreRoutes.{path_is_rival, regret_covers_rival}
-use Rattle.pursuit.proofs.KeptLeads.{Play, kept}
+use Rattle.pursuit.proofs.KeptMargins.{IsPosition, kept}
 
 -- the worst choice for a list is a choice of times
 worst_chosen : (legs : List Leg) (p : List ℕ) → IsChoice legs (worst_of legs p)
@@ -59,17 +59,17 @@ module _ (t : Query) (ks rest : List ℕ) (x : ℕ) (bound : IsPursuitBound t ks
       (λ n. off k n (λ j. let a = after k j in omega arith) ∙ sym (bound.worst.off k n))
       (in_or k ks)
 
-  play : Play bound.table w rest bound.v bound.b
-  play = record {
+  position : IsPosition bound.table w rest bound.v bound.b
+  position = record {
     path = onward;
     on = λ k i. on k (in_append_right ks rest k i);
     off = λ k n s. off k (λ j. let l = before k j in let o = bound.onward in ⊎_elim (λ e. let h : bound.height (leg_at t.legs k).from ≡ bound.height bound.b = ap bound.height e in omega arith) (λ h. omega arith) s) n;
-    told = bound.told;
+    has_margin = bound.has_margin;
   }
 
   below_regret : (y : ℕ) → HasRegret t (ks ++ rest) y → x ≤ y
   below_regret y regret =
-      let kept = kept bound.table w rest bound.v bound.b play in
+      let kept = kept bound.table w rest bound.v bound.b position in
       let r = bound.reaches.by ++ kept.by in
       let path = path_join (IsRivalLeg t) t.legs bound.reaches.by kept.by t.source bound.b t.destination bound.reaches.path kept.path in
       let rival = path_is_rival t bound.height bound.table.rises r path (ks ++ rest) is_route in
@@ -81,5 +81,5 @@ module _ (t : Query) (ks rest : List ℕ) (x : ℕ) (bound : IsPursuitBound t ks
       omega (arith, bound.within, bound.reaches.takes, kept.keeps)
 
 pub pursuit_bound_is_below_every_regret : PursuitBoundIsBelowEveryRegret
-pursuit_bound_is_below_every_regret t ks x bound p is_route begins y regret =
-    below_regret t ks begins.0 x bound (subst (λ l. IsRoute t l) begins.1 is_route) y (subst (λ l. HasRegret t l y) begins.1 regret)
+pursuit_bound_is_below_every_regret t ks x bound p is_route prefix y regret =
+    below_regret t ks prefix.0 x bound (subst (λ l. IsRoute t l) prefix.1 is_route) y (subst (λ l. HasRegret t l y) prefix.1 regret)

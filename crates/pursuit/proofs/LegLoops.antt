@@ -8,27 +8,27 @@ use Rattle.chart.specs.Legs.{leg_at}
 use Rattle.chart.specs.Regret.{Query}
 use Rattle.search.specs.LegsLeaving.{legs_leaving}
 use Rattle.search.proofs.LegsLeaving.{leaving_goes_on, leaving_ends}
-use Rattle.pursuit.specs.Pursuits.{RouteKeeps, RepliesTo}
+use Rattle.pursuit.specs.Pursuits.{RouteKeeps, HasCountermove}
 
 -- the larger number, as std finds it, is one of the two
 pub larger_is : (x y z : ℕ) → z ≡ ord_max nat_cmp x y → z ≡ max x y
 larger_is x y z e = grind (arith, nat_tests)
 
 -- In a loop over the legs that leave the fix v, where `left` are still to come, P holds of those that have passed.
-pub record PassedLegs (legs : List Leg) (v : ℕ) (P : ℕ → Type 0) (left : List ℕ) : Type 0 where
+pub record HoldsOfPassedLegs (legs : List Leg) (v : ℕ) (P : ℕ → Type 0) (left : List ℕ) : Type 0 where
   pub low : ℕ
   pub others : left ≡ legs_leaving legs v low
   pub passed : (k : ℕ) → k < low → k < length legs → (leg_at legs k).from ≡ v → P k
 
 module _ {legs : List Leg} {v : ℕ} (P : ℕ → Type 0) {left : List ℕ} where
-  pub passed_start : left ≡ legs_leaving legs v 0 → PassedLegs legs v P left
+  pub passed_start : left ≡ legs_leaving legs v 0 → HoldsOfPassedLegs legs v P left
   passed_start e = record { low = 0; others = e; passed = λ k lt. absurd (omega arith) }
 
-  module _ (so_far : PassedLegs legs v P left) where
+  module _ (so_far : HoldsOfPassedLegs legs v P left) where
     pub passed_here : (k : ℕ) (rest : List ℕ) → left ≡ k ∷ rest → (k < length legs) × ((leg_at legs k).from ≡ v)
     passed_here k rest e = let next = leaving_goes_on legs v (sym so_far.others ∙ e) in (next.0.there, next.0.leaves)
 
-    pub passed_on : (Q : ℕ → Type 0) (k : ℕ) (rest : List ℕ) → left ≡ k ∷ rest → ((j : ℕ) → P j → Q j) → Q k → PassedLegs legs v Q rest
+    pub passed_on : (Q : ℕ → Type 0) (k : ℕ) (rest : List ℕ) → left ≡ k ∷ rest → ((j : ℕ) → P j → Q j) → Q k → HoldsOfPassedLegs legs v Q rest
     passed_on Q k rest e keeps new =
         let next = leaving_goes_on legs v (sym so_far.others ∙ e) in
         record {
@@ -54,7 +54,7 @@ module _ {legs : List Leg} {v : ℕ} (P : ℕ → Type 0) {left : List ℕ} wher
 
 -- In a loop over the legs that leave the fix v, some leg has P for the largest number x so far, unless that is 0.
 pub record IsBestSoFar (legs : List Leg) (v : ℕ) (P : ℕ → ℕ → Type 0) (x : ℕ) (left : List ℕ) : Type 0 where
-  pub passed : PassedLegs legs v (λ k. Unit {0}) left
+  pub passed : HoldsOfPassedLegs legs v (λ k. Unit {0}) left
   pub found : 1 ≤ x → (k : ℕ) × ((leg_at legs k).from ≡ v) × P x k
 
 module _ {legs : List Leg} {v : ℕ} (P : ℕ → ℕ → Type 0) {left : List ℕ} where
@@ -72,21 +72,21 @@ module _ {legs : List Leg} {v : ℕ} (P : ℕ → ℕ → Type 0) {left : List �
             (cases_lt x y);
       }
 
--- The least lead that each leg of the route keeps, of those that have passed.
-module _ (t : Query) (lead : ℕ → ℕ → ℕ) where
-  pub route_less : (b x y e : ℕ) → y ≤ x → RouteKeeps t lead b x e → RouteKeeps t lead b y e
+-- The least margin that each leg of the route keeps, of those that have passed.
+module _ (t : Query) (margin : ℕ → ℕ → ℕ) where
+  pub route_less : (b x y e : ℕ) → y ≤ x → RouteKeeps t margin b x e → RouteKeeps t margin b y e
   route_less b x y e le k one leg = let h = k (omega arith) leg in (h.0, omega (arith, h.1))
 
-  pub replies_less : (a x y e : ℕ) → y ≤ x → RepliesTo t lead a x e → RepliesTo t lead a y e
-  replies_less a x y e le k one leg =
+  pub countermove_less : (a x y e : ℕ) → y ≤ x → HasCountermove t margin a x e → HasCountermove t margin a y e
+  countermove_less a x y e le k one leg =
       let h = k (omega arith) leg in
       (h.0, h.1, λ o. let r = h.2 (omega arith) in (r.0, r.1, omega (arith, r.2)))
 
   module _ {a : ℕ} {left : List ℕ} where
-    pub route_on : (b x y z : ℕ) → z ≤ x → z ≤ y → PassedLegs t.legs a (RouteKeeps t lead b x) left → (k : ℕ) (rest : List ℕ) → left ≡ k ∷ rest → RouteKeeps t lead b y k → PassedLegs t.legs a (RouteKeeps t lead b z) rest
+    pub route_on : (b x y z : ℕ) → z ≤ x → z ≤ y → HoldsOfPassedLegs t.legs a (RouteKeeps t margin b x) left → (k : ℕ) (rest : List ℕ) → left ≡ k ∷ rest → RouteKeeps t margin b y k → HoldsOfPassedLegs t.legs a (RouteKeeps t margin b z) rest
     route_on b x y z p q so_far k rest e new =
-        passed_on (RouteKeeps t lead b x) so_far (RouteKeeps t lead b z) k rest e (λ j h. route_less b x z j p h) (route_less b y z k q new)
+        passed_on (RouteKeeps t margin b x) so_far (RouteKeeps t margin b z) k rest e (λ j h. route_less b x z j p h) (route_less b y z k q new)
 
-    pub replies_on : (x y z : ℕ) → z ≤ x → z ≤ y → PassedLegs t.legs a (RepliesTo t lead a x) left → (k : ℕ) (rest : List ℕ) → left ≡ k ∷ rest → RepliesTo t lead a y k → PassedLegs t.legs a (RepliesTo t lead a z) rest
-    replies_on x y z p q so_far k rest e new =
-        passed_on (RepliesTo t lead a x) so_far (RepliesTo t lead a z) k rest e (λ j h. replies_less a x z j p h) (replies_less a y z k q new)
+    pub countermove_on : (x y z : ℕ) → z ≤ x → z ≤ y → HoldsOfPassedLegs t.legs a (HasCountermove t margin a x) left → (k : ℕ) (rest : List ℕ) → left ≡ k ∷ rest → HasCountermove t margin a y k → HoldsOfPassedLegs t.legs a (HasCountermove t margin a z) rest
+    countermove_on x y z p q so_far k rest e new =
+        passed_on (HasCountermove t margin a x) so_far (HasCountermove t margin a z) k rest e (λ j h. countermove_less a x z j p h) (countermove_less a y z k q new)

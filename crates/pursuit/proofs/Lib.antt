@@ -1,9 +1,9 @@
 pub mod Paths
 pub mod RivalsAreRoutes
-pub mod KeptLeads
+pub mod KeptMargins
 pub mod BelowRegret
 pub mod ReadLegs
 pub mod LegLoops
-pub mod SupportedLeads
+pub mod SupportedMargins
 pub mod ReachedFixes
-pub mod ToldBounds
+pub mod BoundsAtFixes

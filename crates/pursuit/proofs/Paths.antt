@@ -7,7 +7,7 @@ use Rattle.chart.specs.Legs.{leg_at}
 use Rattle.chart.specs.Routes.{Leaves, Leads, fixes_entered, fixes_of_chain, IsIn, HasNoRepeats}
 use Rattle.chart.specs.Regret.{Query, IsRoute}
 use Rattle.regret.proofs.WorstChoice.{in_fixes_entered}
-use Rattle.floor.proofs.FixesOfChains.{left_not_end}
+use Rattle.chart.proofs.Chains.{left_not_end}
 use Rattle.pursuit.specs.Rivals.{IsRouteLeg, IsRivalLeg, IsPath}
 
 module _ (P : ℕ → Type 0) (legs : List Leg) where

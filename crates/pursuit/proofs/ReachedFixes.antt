@@ -9,13 +9,13 @@ use Rattle.chart.proofs.Chains.{in_push}
 use Rattle.search.proofs.WalkedChains.{time_join}
 use Rattle.pursuit.specs.Rivals.{IsRivalLeg}
 use Rattle.pursuit.specs.Pursuits.{RivalReaches}
-use Rattle.pursuit.specs.internal.Leads.{AreReached}
+use Rattle.pursuit.specs.internal.Margins.{AreReached}
 use Rattle.pursuit.proofs.Paths.{path_join}
 
 cases_ne : (x y : ℕ) → (x ≢ y) ⊎ (x ≡ y)
 cases_ne x y = ⊎_elim inr inl (cases_eq x y)
 
--- a list of nothing knows nothing
+-- in a list of `None` no time is found
 unset : (n b : ℕ) → get_or (replicate n (let x : Option ℕ = None in x)) b None ≡ None
 unset n b = ⊎_elim (λ lt. get_or-replicate n b None None lt) (λ past. get_or_past (replicate n None) b None (let e = length-replicate n (let x : Option ℕ = None in x) in omega arith)) (cases_lt b n)
 

@@ -1,3 +1,4 @@
 pub mod Rivals
 pub mod Pursuits
+pub mod Answers
 pub mod internal

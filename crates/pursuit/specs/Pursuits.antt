@@ -1,10 +1,10 @@
 -- The pursuit bound of a chain: a regret that every route which begins with the chain has at least.
 --
--- A route that begins with the chain is followed, and a rival is played against it that knows only where the route is.
--- Every leg leads to a higher fix. Of the two, the one that stands lower moves; at one height the route does, so that the
--- rival sees its move; where both stand at one fix, both do. A table has for each two places a lead that the rival can be
--- sure of from there on: by how much less time it takes to the destination than the route, in the choice that is worst for
--- the route.
+-- A route that begins with the chain goes on leg by leg, and so does a rival that sees only where the route is.
+-- Every leg leads to a higher fix. Of the two, the one at the lower fix moves; at one height the route does, so that
+-- the rival sees its move; where both are at one fix, both move. A table has for each two fixes a margin that the rival
+-- can be sure of from there on: by how much less time it takes to the destination than the route, in the choice that is
+-- worst for the route.
 use Rattle.std.specs.Prelude.{◌≡◌, ℕ, ◌+◌, ◌<◌, ◌≤◌, ◌==◌, cond, List, length, ◌≢◌}
 use Rattle.chart.specs.declared.leg.Leg.{Leg}
 use Rattle.chart.specs.Legs.{leg_at}
@@ -14,59 +14,59 @@ use Rattle.chart.specs.Floors.{IsPrefix, highs}
 use Rattle.pursuit.specs.Rivals.{IsRouteLeg, IsRivalLeg, IsPath}
 
 -- how long the rival's leg f takes where route and rival leave one fix, and the route by the leg e
-abbrev pub reply_time : List Leg → ℕ → ℕ → ℕ
-reply_time legs e f = cond (f == e) (leg_at legs f).high (leg_at legs f).low
+abbrev pub countermove_time : List Leg → ℕ → ℕ → ℕ
+countermove_time legs e f = cond (f == e) (leg_at legs f).high (leg_at legs f).low
 
--- Leads count from an offset, so that a number may stand for a lead below zero. A lead of 0 says nothing: from there the rival
--- may have no way on. The route is at a, and the rival at b.
+-- Margins count from an offset, so that a number can be a margin below zero. Where the table has 0 it has no margin: from there
+-- the rival may have no way on. The route is at a, and the rival at b.
 
--- the lead x is kept where the route takes the leg e
+-- the margin x is kept where the route takes the leg e
 abbrev pub RouteKeeps : Query → (ℕ → ℕ → ℕ) → ℕ → ℕ → ℕ → Type 0
-RouteKeeps t lead b x e =
-    1 ≤ x → IsRouteLeg t e → (1 ≤ lead (leg_at t.legs e).to b) × (x ≤ lead (leg_at t.legs e).to b + (leg_at t.legs e).high)
+RouteKeeps t margin b x e =
+    1 ≤ x → IsRouteLeg t e → (1 ≤ margin (leg_at t.legs e).to b) × (x ≤ margin (leg_at t.legs e).to b + (leg_at t.legs e).high)
 
 -- it is kept by whichever leg the route takes
 abbrev pub RouteMoves : Query → (ℕ → ℕ → ℕ) → ℕ → ℕ → ℕ → Type 0
-RouteMoves t lead a b x = (e : ℕ) → e < length t.legs → (leg_at t.legs e).from ≡ a → RouteKeeps t lead b x e
+RouteMoves t margin a b x = (e : ℕ) → e < length t.legs → (leg_at t.legs e).from ≡ a → RouteKeeps t margin b x e
 
 -- it is kept where the rival takes the leg f
 abbrev pub RivalKeeps : Query → (ℕ → ℕ → ℕ) → ℕ → ℕ → ℕ → Type 0
-RivalKeeps t lead a x f = 1 ≤ x → IsRivalLeg t f × (x + (leg_at t.legs f).low ≤ lead a (leg_at t.legs f).to)
+RivalKeeps t margin a x f = 1 ≤ x → IsRivalLeg t f × (x + (leg_at t.legs f).low ≤ margin a (leg_at t.legs f).to)
 
 -- it is kept by some leg of the rival
 abbrev pub RivalMoves : Query → (ℕ → ℕ → ℕ) → ℕ → ℕ → ℕ → Type 0
-RivalMoves t lead a b x = 1 ≤ x → (f : ℕ) × ((leg_at t.legs f).from ≡ b) × RivalKeeps t lead a x f
+RivalMoves t margin a b x = 1 ≤ x → (f : ℕ) × ((leg_at t.legs f).from ≡ b) × RivalKeeps t margin a x f
 
--- where both leave one fix, it is kept where the route takes the leg e and the rival f
-abbrev pub ReplyKeeps : Query → (ℕ → ℕ → ℕ) → ℕ → ℕ → ℕ → Type 0
-ReplyKeeps t lead e x f =
-    1 ≤ x → IsRivalLeg t f × (1 ≤ lead (leg_at t.legs e).to (leg_at t.legs f).to)
-    × (x + reply_time t.legs e f ≤ lead (leg_at t.legs e).to (leg_at t.legs f).to + (leg_at t.legs e).high)
+-- where both leave one fix, it is kept where the route takes the leg e, and the rival the leg f as its countermove
+abbrev pub CountermoveKeeps : Query → (ℕ → ℕ → ℕ) → ℕ → ℕ → ℕ → Type 0
+CountermoveKeeps t margin e x f =
+    1 ≤ x → IsRivalLeg t f × (1 ≤ margin (leg_at t.legs e).to (leg_at t.legs f).to)
+    × (x + countermove_time t.legs e f ≤ margin (leg_at t.legs e).to (leg_at t.legs f).to + (leg_at t.legs e).high)
 
--- where both leave a, and the route takes the leg e, it is kept by some leg of the rival
-abbrev pub RepliesTo : Query → (ℕ → ℕ → ℕ) → ℕ → ℕ → ℕ → Type 0
-RepliesTo t lead a x e = 1 ≤ x → IsRouteLeg t e → (f : ℕ) × ((leg_at t.legs f).from ≡ a) × ReplyKeeps t lead e x f
+-- where both leave a, and the route takes the leg e, it is kept by some countermove of the rival
+abbrev pub HasCountermove : Query → (ℕ → ℕ → ℕ) → ℕ → ℕ → ℕ → Type 0
+HasCountermove t margin a x e = 1 ≤ x → IsRouteLeg t e → (f : ℕ) × ((leg_at t.legs f).from ≡ a) × CountermoveKeeps t margin e x f
 
 -- and it is so whichever leg the route takes
 abbrev pub BothMove : Query → (ℕ → ℕ → ℕ) → ℕ → ℕ → Type 0
-BothMove t lead a x = (e : ℕ) → e < length t.legs → (leg_at t.legs e).from ≡ a → RepliesTo t lead a x e
+BothMove t margin a x = (e : ℕ) → e < length t.legs → (leg_at t.legs e).from ≡ a → HasCountermove t margin a x e
 
--- the next move keeps the lead x; a route that is higher than the destination has no way on
-pub record IsSupported (t : Query) (height : ℕ → ℕ) (offset : ℕ) (lead : ℕ → ℕ → ℕ) (a b x : ℕ) : Type 0 where
+-- the next move keeps the margin x; a route that is higher than the destination has no way on
+pub record IsSupported (t : Query) (height : ℕ → ℕ) (offset : ℕ) (margin : ℕ → ℕ → ℕ) (a b x : ℕ) : Type 0 where
   pub both_arrived : a ≡ t.destination → b ≡ t.destination → x ≤ offset
   pub rival_past : a ≡ t.destination → a ≢ b → height a ≤ height b → x ≡ 0
-  pub route_moves : a ≢ b → height a ≤ height b → RouteMoves t lead a b x
-  pub rival_moves : height b < height a → height a ≤ height t.destination → RivalMoves t lead a b x
-  pub both_move : a ≡ b → BothMove t lead a x
+  pub route_moves : a ≢ b → height a ≤ height b → RouteMoves t margin a b x
+  pub rival_moves : height b < height a → height a ≤ height t.destination → RivalMoves t margin a b x
+  pub both_move : a ≡ b → BothMove t margin a x
 
 -- every leg leads to a higher fix, but for those that no route and no rival has
 abbrev pub EveryLegRises : Query → (ℕ → ℕ) → Type 0
 EveryLegRises t height = (k : ℕ) → IsRivalLeg t k → height (leg_at t.legs k).from < height (leg_at t.legs k).to
 
--- a table of leads, each of which the next move keeps
-pub record IsLeadTable (t : Query) (height : ℕ → ℕ) (offset : ℕ) (lead : ℕ → ℕ → ℕ) : Type 0 where
+-- a table of margins, each of which the next move keeps
+pub record IsMarginTable (t : Query) (height : ℕ → ℕ) (offset : ℕ) (margin : ℕ → ℕ → ℕ) : Type 0 where
   pub rises : EveryLegRises t height
-  pub supported : (a b : ℕ) → IsSupported t height offset lead a b (lead a b)
+  pub supported : (a b : ℕ) → IsSupported t height offset margin a b (margin a b)
 
 -- a rival comes to the fix b in the time d of the choice w, by legs that leave fixes below the height h
 pub record RivalReaches (t : Query) (height w : ℕ → ℕ) (h b d : ℕ) : Type 0 where
@@ -80,8 +80,8 @@ pub record RivalReaches (t : Query) (height w : ℕ → ℕ) (h b d : ℕ) : Typ
 pub record IsPursuitBound (t : Query) (ks : List ℕ) (x : ℕ) : Type 0 where
   pub height : ℕ → ℕ
   pub offset : ℕ
-  pub lead : ℕ → ℕ → ℕ
-  pub table : IsLeadTable t height offset lead
+  pub margin : ℕ → ℕ → ℕ
+  pub table : IsMarginTable t height offset margin
   pub v : ℕ
   pub leads : Leads t.legs t.source ks v
   pub w : ℕ → ℕ
@@ -90,8 +90,8 @@ pub record IsPursuitBound (t : Query) (ks : List ℕ) (x : ℕ) : Type 0 where
   pub d : ℕ
   pub reaches : RivalReaches t height w (height v) b d
   pub onward : height v ≤ height b
-  pub told : 1 ≤ lead v b
-  pub within : x + d + offset ≤ time (highs t.legs) ks + lead v b
+  pub has_margin : 1 ≤ margin v b
+  pub within : x + d + offset ≤ time (highs t.legs) ks + margin v b
 
 -- no route that begins with the list ks has a regret below x
 abbrev pub IsBelowRegrets : Query → List ℕ → ℕ → Type 0

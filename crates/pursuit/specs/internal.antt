@@ -1,2 +1,2 @@
--- What the code of a pursuit works on.
-pub mod Leads
+-- How the code of a pursuit stands between two steps: no public call cites it.
+pub mod Margins

@@ -1,10 +1,11 @@
 // The pursuit bound of a chain that a search keeps leg by leg.
 ghost use Rattle.std.specs.Prelude.{◌≤◌};
 ghost use Rattle.pursuit.specs.Pursuits.{PursuitBoundIsBelowEveryRegret};
-ghost use Rattle.pursuit.specs.internal.Leads.{IsPursuit, IsBelowChainRegrets, TellsBound, query_on};
+ghost use Rattle.pursuit.specs.Answers.{IsPursuit, IsBelowChainRegrets, query_on};
+ghost use Rattle.pursuit.specs.internal.Margins.{IsBoundAt};
 
 use super::heights::height_of;
-use super::leads::{OFFSET, lead_between};
+use super::margins::{OFFSET, margin_between};
 use super::pursuit::Pursuit;
 use super::reaching::{Reaching, time_at};
 use chart::{Chart, Ends};
@@ -21,9 +22,9 @@ pub struct ChainState<'a> {
     pub flags: &'a [bool],
 }
 
-// The bound that the rival who has reached the fix `b` tells of the chain; 0 where it tells none.
+// The bound of the chain by the rival who has reached the fix `b`; 0 where there is none.
 fn bound_at(pursuit: &Pursuit, chain: &ChainState<'_>, times: &[Option<u32>], b: u16) -> u32
-    ensures { 1 ≤ result → TellsBound pursuit.now chain.now times.now b result }
+    ensures { 1 ≤ result → IsBoundAt pursuit.now chain.now times.now b result }
 {
     if height_of(&pursuit.heights, b) < height_of(&pursuit.heights, chain.end) {
         return 0;
@@ -31,19 +32,19 @@ fn bound_at(pursuit: &Pursuit, chain: &ChainState<'_>, times: &[Option<u32>], b:
     let Some(time) = time_at(times, b) else {
         return 0;
     };
-    let lead = lead_between(&pursuit.leads, pursuit.fixes, chain.end, b);
-    if lead == 0 {
+    let margin = margin_between(&pursuit.margins, pursuit.fixes, chain.end, b);
+    if margin == 0 {
         return 0;
     }
     chain
         .high
-        .saturating_add(lead)
+        .saturating_add(margin)
         .saturating_sub(time)
         .saturating_sub(OFFSET)
 }
 
 /// The pursuit bound of a chain between two ends, in seconds: no route that begins with the chain has less regret. It is 0
-/// where nothing is known, and the call is never refused. A search that goes deep calls it at each step, so its frame is kept
+/// where the pursuit has no margin for it, and the call is never refused. A search that goes deep calls it at each step, so its frame is kept
 /// out of the search's.
 #[inline(never)]
 pub fn bound(snapshot: &Snapshot, ends: Ends, pursuit: &Pursuit, chain: &ChainState<'_>) -> u32

@@ -1,10 +1,10 @@
 // A height for each fix, so that every leg leads to a higher fix.
 ghost use Rattle.std.specs.Prelude.{◌≡◌, ◌↔◌, IsTrue};
 ghost use Rattle.pursuit.specs.Pursuits.{EveryLegRises};
-ghost use Rattle.pursuit.specs.internal.Leads.{height_at, query_on};
+ghost use Rattle.pursuit.specs.Answers.{height_at, query_on};
 
-use super::leads::PURSUIT_FIXES;
 use super::legs::rival_leg;
+use super::margins::PURSUIT_FIXES;
 use arrayvec::ArrayVec;
 use chart::{Chart, Ends};
 use search::Snapshot;

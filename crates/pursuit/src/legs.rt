@@ -1,7 +1,8 @@
 // The legs that routes and rivals may have.
 ghost use Rattle.std.specs.Prelude.{◌↔◌, IsTrue};
 ghost use Rattle.pursuit.specs.Rivals.{ServesRoute, ServesRival};
-ghost use Rattle.pursuit.specs.internal.Leads.{LegRead, query_on};
+ghost use Rattle.pursuit.specs.Answers.{query_on};
+ghost use Rattle.pursuit.specs.internal.Margins.{IsServingLeg};
 
 use chart::{Chart, Ends, Leg, Standing};
 use search::Snapshot;
@@ -22,24 +23,14 @@ fn serves_rival(leg: &Leg, ends: Ends) -> bool
 
 // The leg of the number `k`, where it may be on a route between the ends.
 pub(crate) fn route_leg(snapshot: &Snapshot, ends: Ends, k: u16) -> Option<Leg>
-    ensures { LegRead ServesRoute (query_on snapshot.now ends) k result }
+    ensures { IsServingLeg ServesRoute (query_on snapshot.now ends) k result }
 {
-    let leg = snapshot.leg(k)?;
-    if serves_route(&leg, ends) {
-        Some(leg)
-    } else {
-        None
-    }
+    snapshot.leg(k).filter(|leg| serves_route(leg, ends))
 }
 
 // The leg of the number `k`, where it may be on a rival between the ends.
 pub(crate) fn rival_leg(snapshot: &Snapshot, ends: Ends, k: u16) -> Option<Leg>
-    ensures { LegRead ServesRival (query_on snapshot.now ends) k result }
+    ensures { IsServingLeg ServesRival (query_on snapshot.now ends) k result }
 {
-    let leg = snapshot.leg(k)?;
-    if serves_rival(&leg, ends) {
-        Some(leg)
-    } else {
-        None
-    }
+    snapshot.leg(k).filter(|leg| serves_rival(leg, ends))
 }

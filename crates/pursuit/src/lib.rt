@@ -3,12 +3,12 @@
 #![tactic(auto)]
 
 mod bounds;
+mod filling;
 mod heights;
-mod lead_table;
-mod leads;
 mod legs;
+mod margin_table;
+mod margins;
 mod pursuit;
-mod reached_pairs;
 mod reaching;
 
 pub use bounds::{ChainState, bound};

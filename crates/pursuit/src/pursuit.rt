@@ -1,15 +1,15 @@
 // A pursuit on a chart between two ends, made once for many chains.
 
+use super::filling::Filling;
 use super::heights::{every_leg_rises, falling_order, find_heights};
-use super::lead_table::{LeadTable, fill_leads};
-use super::leads::{MAX_LEADS, PURSUIT_FIXES, clear_leads};
-use super::reached_pairs::flag_reached;
+use super::margin_table::MarginTable;
+use super::margins::{MAX_MARGINS, PURSUIT_FIXES, clear_margins};
 use arrayvec::ArrayVec;
 use chart::{Chart, Ends};
 use search::Snapshot;
 
-/// A pursuit on a chart between two ends, from which the pursuit bounds of chains are told: the heights of the fixes, and a
-/// table of leads in seconds. It is large and of fixed size, so that a search fills one in its place and lends it.
+/// A pursuit on a chart between two ends, by which the pursuit bounds of chains are worked out: the heights of the fixes, and
+/// a table of margins in seconds. It is large and of fixed size, so that a search fills one in its place and lends it.
 #[derive(Drop)]
 pub struct Pursuit {
     // How many fixes the chart has.
@@ -17,28 +17,28 @@ pub struct Pursuit {
     pub(crate) heights: [u16; PURSUIT_FIXES],
     // The fixes from the highest down.
     pub(crate) order: ArrayVec<u16, PURSUIT_FIXES>,
-    pub(crate) leads: [u32; MAX_LEADS],
+    pub(crate) margins: [u32; MAX_MARGINS],
 }
 
 impl Pursuit {
     ghost use Rattle.std.specs.Prelude.{IsTrue};
-    ghost use Rattle.pursuit.specs.internal.Leads.{IsPursuit, KnowsNoLead, query_on};
+    ghost use Rattle.pursuit.specs.Answers.{IsPursuit, HasNoMargin, query_on};
 
-    /// A pursuit that knows no lead yet, for `fill`. It takes no memory but its own.
+    /// A pursuit without margins yet, for `fill`. It takes no memory but its own.
     pub fn new() -> Pursuit
-        ensures { KnowsNoLead result }
+        ensures { HasNoMargin result }
     {
         Pursuit {
             fixes: 0,
             heights: [0; PURSUIT_FIXES],
             order: ArrayVec::new(),
-            leads: [0; MAX_LEADS],
+            margins: [0; MAX_MARGINS],
         }
     }
 
     /// Fills the pursuit for a chart between two ends, and returns whether it serves them. It does not where for no heights
-    /// every leg leads to a higher fix, nor where the chart has more than 200 fixes: nothing is then known of it, and it may be
-    /// filled again. That it serves all others is tested, and not promised. What it held before is lost in every case.
+    /// every leg leads to a higher fix, nor where the chart has more than 200 fixes: nothing is then promised of it, and it may
+    /// be filled again. That it serves all others is tested, and not promised. What it held before is lost in every case.
     pub fn fill(&mut self, snapshot: &Snapshot, ends: Ends) -> bool
         ensures { IsTrue result → IsPursuit (query_on snapshot.now ends) self.new }
     {
@@ -51,15 +51,20 @@ impl Pursuit {
             return false;
         }
         falling_order(snapshot, &self.heights, &mut self.order);
-        let order = self.order.as_slice();
-        clear_leads(&mut self.leads, snapshot.n());
-        flag_reached(snapshot, ends, &self.heights, order, &mut self.leads);
-        fill_leads(snapshot, ends, &self.heights, order, &mut self.leads);
-        let table = LeadTable {
+        let filling = Filling {
             snapshot,
             ends,
             heights: &self.heights,
-            leads: &self.leads,
+            order: self.order.as_slice(),
+        };
+        clear_margins(&mut self.margins, snapshot.n());
+        filling.flag_reached(&mut self.margins);
+        filling.fill_margins(&mut self.margins);
+        let table = MarginTable {
+            snapshot,
+            ends,
+            heights: &self.heights,
+            margins: &self.margins,
         };
         table.is_each_supported()
     }

@@ -1,9 +1,9 @@
-// The times by which a rival reaches fixes while the route flies a chain.
+// The times by which a rival reaches fixes while the route is on a chain.
 ghost use Rattle.std.specs.Prelude.{◌≡◌, None, Some, slice_index_or, slice_set};
 
 use super::heights::height_of;
-use super::leads::PURSUIT_FIXES;
 use super::legs::rival_leg;
+use super::margins::PURSUIT_FIXES;
 use chart::{Choice, Ends};
 use regret::Flagged;
 use search::Snapshot;
@@ -25,8 +25,8 @@ fn set_time(times: &mut [Option<u32>], fix: u16, time: u32)
     }
 }
 
-// What a leg that the rival takes is told by: a rival may take the legs that leave fixes below the height `below`, the flagged
-// legs in their high time and all others in their low.
+// Which legs a rival may take, and in which times: those that leave fixes below the height `below`, the flagged legs in their
+// high time and all others in their low.
 #[derive(Clone, Copy)]
 pub(crate) struct Reaching<'a> {
     pub(crate) snapshot: &'a Snapshot,
@@ -37,7 +37,7 @@ pub(crate) struct Reaching<'a> {
 }
 
 impl<'a> Reaching<'a> {
-    ghost use Rattle.pursuit.specs.internal.Leads.{AreTimesOf};
+    ghost use Rattle.pursuit.specs.internal.Margins.{AreTimesOf};
 
     // Lets the rival take the leg `k`, if that leaves a fix below the height that it reaches.
     fn take_leg(&self, times: &mut [Option<u32>], k: u16)

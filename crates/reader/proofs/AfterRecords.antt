@@ -10,7 +10,8 @@ use Rattle.chart_format.specs.Format.{Name, chart_bytes, fix_bytes, end_bytes, f
 use Rattle.chart_format.specs.Reports.{chart_report}
 use Rattle.chart_format.specs.Checks.{Check, Pass, byte, AreBytes, body, name_in, leg_in, fixes_in, legs_in, chart_checks, fix_checks, leg_checks, end_checks}
 use Rattle.chart_format.specs.Faults.{HasPrefix, HasFault, at_fix, at_leg, at_end, after_end, Finds, IsFaultOf}
-use Rattle.reader.specs.internal.RecordPlaces.{HasFixBody, IsNameIndex, names_at, legs_at}
+use Rattle.reader.specs.Files.{names_at}
+use Rattle.reader.specs.internal.RecordPlaces.{HasFixBody, IsNameIndex, legs_at}
 use Rattle.reader.specs.internal.ReadingStates.{Refuses, AfterNames, AfterLegs, FaultAt}
 use Rattle.reader.proofs.NamesAt.{names_push, names_length}
 use Rattle.reader.proofs.PrefixWithRecord.{prefix_of_chart, prefix_with_fix, prefix_with_leg, end_written_back, push_all}

@@ -2,9 +2,10 @@
 use Rattle.std.proofs.Common.{◌≡◌, ℕ, zero, suc, ◌+◌, ◌<◌, List, [], ◌∷◌, ◌++◌, length, get_or, take, drop, refl, ap, ◌∙◌, arith}
 use Rattle.std.proofs.lemmas.List.{drop-drop}
 use Rattle.std.proofs.lemmas.Grind.{common_steps}
-use Rattle.chart_format.specs.Format.{name_at, name_offset}
+use Rattle.chart.specs.declared.row.Row.{Row}
+use Rattle.chart_format.specs.Format.{Name, Means, AreFixNames, name_at, name_offset}
 use Rattle.chart_format.specs.Checks.{byte, body, name_in}
-use Rattle.reader.specs.internal.RecordPlaces.{names_at}
+use Rattle.reader.specs.Files.{names_at}
 
 pub names_length : (file ps : List ℕ) → length (names_at file ps) ≡ length ps
 names_length file [] = refl
@@ -28,3 +29,7 @@ pub name_part : (file : List ℕ) (p : ℕ) → name_in (body (drop p file)) ≡
 name_part file p =
     front_by_length (byte (body (drop p file)) 0) (drop 1 (body (drop p file)))
     ∙ ap (take (length (name_in (body (drop p file))))) (ap (drop 1) (drop-drop 2 p file) ∙ drop-drop 1 (p + 2) file ∙ ap (λ k. drop k file) (omega arith))
+
+-- the names of a chart's file are good
+pub names_of_chart : {file : List ℕ} {names : List Name} {legs : List Row} → Means file names legs → AreFixNames names
+names_of_chart m = record { few = m.valid.counts_valid.most; valid = m.valid.names_valid; distinct = m.valid.names_distinct }

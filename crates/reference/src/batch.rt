@@ -1,7 +1,7 @@
 // Calls that are made in one run, beside what is expected that they say.
 use super::ledger::Ledger;
-use super::listing::Listing;
 use chart::{Chart, QuickestTotal, Refusal};
+use listing::{FILLER, Listing, are_untouched};
 use plan::{Amendment, Draft, Filed, Status};
 use runs::file_and_run::file_and_run;
 use runs::run::run;
@@ -46,9 +46,6 @@ impl Outcome {
     }
 }
 
-/// What the places of memory hold before a call. No leg has the number, and no plan replies it.
-pub const FILLER: u16 = 9999;
-
 const FILLER_REPLY: Reply = Reply::Level(Ok(FILLER));
 
 // So many places are given beyond those that the calls take.
@@ -64,11 +61,6 @@ pub struct Batch<'a> {
     calls: Vec<Call<'a>>,
     expected: Vec<Outcome>,
     memory: Vec<u16>,
-}
-
-/// Whether all places hold their filler.
-pub fn are_untouched(places: &[u16]) -> bool {
-    places.iter().all(|place| *place == FILLER)
 }
 
 fn are_untouched_replies(replies: &[Reply]) -> bool {

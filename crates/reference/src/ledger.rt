@@ -1,6 +1,6 @@
 // A ledger of plain rows. It is kept from the amendments alone, and never looks at the plan.
-use super::listing::Listing;
 use chart::{Chart, Ends, Leg, Row, Standing};
+use listing::Listing;
 use plan::{Amendment, Change, Status};
 use std::alloc::{AllocError, Global};
 
@@ -102,17 +102,17 @@ impl Ledger {
 
     // The number of the first ground that applies to an amendment.
     fn first_ground(&self, amendment: &Amendment) -> Option<u8> {
-        let stands = self.is_amended(amendment.leg);
+        let is_amended = self.is_amended(amendment.leg);
         let restores = matches!(&amendment.change, Change::Restore);
         let grounds = [
             (13, amendment.leg as usize >= self.own.len()),
             (8, has_invalid_times(&amendment.change)),
             (22, self.revision == LAST_REVISION),
             (21, amendment.revision != self.revision),
-            (24, restores && !stands),
+            (24, restores && !is_amended),
             (
                 23,
-                !restores && !stands && self.amended.len() >= MAX_AMENDED,
+                !restores && !is_amended && self.amended.len() >= MAX_AMENDED,
             ),
         ];
         grounds

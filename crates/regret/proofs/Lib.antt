@@ -1,3 +1,4 @@
 pub mod WorstChoice
 pub mod RegretFromBest
 pub mod EveryRouteHasRegret
+pub mod OneRegretOutcome

@@ -1,5 +1,5 @@
 -- The regret of a route from the best total in its worst choice.
-use Rattle.std.proofs.Common.{◌≡◌, ℕ, ◌+◌, ◌-◌, ◌<◌, ◌≤◌, Bool, true, false, List, [], ◌∷◌, Some, None, MatchOption, Option, eqb, Ok, Err, sym, ap, ◌∙◌, subst, arith}
+use Rattle.std.proofs.Common.{◌≡◌, ℕ, ◌+◌, ◌-◌, ◌<◌, ◌≤◌, Bool, true, false, List, [], ◌∷◌, Some, None, MatchOption, Option, eqb, Ok, Err, refl, sym, ap, ◌∙◌, subst, arith}
 use Rattle.std.specs.Bool.{then_some}
 use Rattle.std.proofs.lemmas.Bool.{false_from_ne_true, eqb-true, eqb-false}
 use Rattle.chart.specs.declared.leg.Leg.{Leg}
@@ -13,15 +13,11 @@ use Rattle.chart.proofs.Chains.{leads_end}
 use Rattle.chart.proofs.RouteEnds.{route_goes_away}
 use Rattle.search.specs.declared.walked.Walked.{Walked}
 use Rattle.search.specs.Walks.{AreFlagsOf, IsWalkedAlong, WalkAnswer}
-use Rattle.regret.specs.FlaggedTimes.{time_by, flagged_times}
+use Rattle.regret.specs.FlaggedTimes.{time_by, flagged_times, flagged_choice}
 use Rattle.regret.specs.declared.refusals.RegretRefusal.{RegretRefusal}
 use Rattle.regret.specs.declared.refusals.RegretRefusal.TheVariants.{NotARoute}
-use Rattle.regret.specs.Answers.{RegretAnswer}
+use Rattle.regret.specs.Answers.{regret_outcome, IsRegretOutcome}
 use Rattle.regret.proofs.WorstChoice.{worst_choice_gives_regret, time_same}
-
--- the time of each leg where the flagged legs take their high time and all others their low
-abbrev pub flagged_choice : List Leg → List Bool → ℕ → ℕ
-flagged_choice legs flags k = flagged_times flags k (leg_at legs k)
 
 pub total_is_time : (legs : List Leg) (flags : List Bool) (ks : List ℕ) (x : ℕ) → total_from (seconds_rule (flagged_times flags)) legs x ks ≡ x + time (flagged_choice legs flags) ks
 total_is_time legs flags [] x = omega arith
@@ -48,7 +44,7 @@ chain_is_route legs s t z [] c e q r = absurd (route_goes_away legs s q (subst (
 chain_is_route legs s t z (k ∷ ks) c e q r = record { chain = subst (λ v. IsChain legs s (k ∷ ks) v) e c; some = omega arith }
 
 -- the regret of a list that was walked along to the destination, from the best total in its worst choice
-pub regret_from_best : (legs : List Leg) (s t : ℕ) (ks : List ℕ) (w : Walked) → IsWalkedAlong legs s ks w → w.end ≡ t → (b : ℕ) → IsBest (seconds_rule (flagged_times w.flown)) legs s t b → (b ≤ w.high) × RegretAnswer (query legs s t) ks (Ok (w.high - b))
+pub regret_from_best : (legs : List Leg) (s t : ℕ) (ks : List ℕ) (w : Walked) → IsWalkedAlong legs s ks w → w.end ≡ t → (b : ℕ) → IsBest (seconds_rule (flagged_times w.flown)) legs s t b → (b ≤ w.high) × IsRegretOutcome (query legs s t) ks (regret_outcome (Ok (w.high - b)))
 regret_from_best legs s t ks w along e b best =
     let worst = flags_worst legs w.flown ks along.flags in
     let takes = time_same (flagged_choice legs w.flown) (highs legs) ks (λ k i. worst.on k i) in
@@ -71,5 +67,5 @@ walked_to fixes legs s t ks (Some w) r P walked m test = rw m.2 (by_test m.0 (te
     by_test false e = λ lt c. eqb-false w.end t (sym e) (leads_end legs ks s w.end t walked.1.walk.chain.leads c.leads)
 
 -- the one refusal says that the list is no route
-pub not_a_route : (t : Query) (ks : List ℕ) (e : RegretRefusal) → (IsRoute t ks → ⊥) → RegretAnswer t ks (Err e)
-not_a_route t ks NotARoute n = n
+pub not_a_route : (t : Query) (ks : List ℕ) (e : RegretRefusal) → (IsRoute t ks → ⊥) → IsRegretOutcome t ks (regret_outcome (Err e))
+not_a_route t ks NotARoute n = (refl, n)

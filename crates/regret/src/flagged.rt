@@ -6,7 +6,7 @@ ghost use Rattle.search.specs.Snapshots.{snapshot_legs};
 ghost use Rattle.regret.specs.FlaggedTimes.{flagged_times};
 ghost use Rattle.regret.specs.laws.FlaggedTimesLaws.{flagged_bounded};
 
-use chart::{Choice, Ends, Leg, Seconds};
+use chart::{Choice, Ends, Highs, Leg, Lows, Seconds};
 use search::{Snapshot, best_on, is_flagged};
 
 /// The choice of times in which the flagged legs take their high time, and all others their low.
@@ -23,9 +23,9 @@ impl<'a> Choice for Flagged<'a> {
 
     fn time(&self, k: u16, leg: &Leg) -> u32 {
         if is_flagged(self.flags, k) {
-            leg.high
+            Highs.time(k, leg)
         } else {
-            leg.low
+            Lows.time(k, leg)
         }
     }
 }

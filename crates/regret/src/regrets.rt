@@ -2,7 +2,7 @@
 // their low.
 ghost use Rattle.chart.specs.Regret.{query, WorstChoiceGivesRegret, RegretIsNeverExceeded, EveryRouteHasARegret, RegretIsUnique};
 ghost use Rattle.search.specs.Snapshots.{snapshot_legs};
-ghost use Rattle.regret.specs.Answers.{RegretAnswer};
+ghost use Rattle.regret.specs.Answers.{regret_outcome, IsRegretOutcome};
 
 use super::flagged::least_time;
 use super::refusals::RegretRefusal;
@@ -12,7 +12,7 @@ use search::{Snapshot, walk};
 /// The regret of a list of legs between two ends, in seconds, on a snapshot, which is taken once for many questions. It
 /// is refused with the number 14 where the list is no route between them.
 pub fn regret_on(snapshot: &Snapshot, ends: Ends, list: &[u16]) -> Result<u32, RegretRefusal>
-    ensures { RegretAnswer (query (snapshot_legs snapshot.now) ends.from ends.to) list.now result }
+    ensures { IsRegretOutcome (query (snapshot_legs snapshot.now) ends.from ends.to) list.now (regret_outcome result) }
 {
     let walked = walk(snapshot, ends.from, list)
         .filter(|walked| walked.end == ends.to)
@@ -24,7 +24,7 @@ pub fn regret_on(snapshot: &Snapshot, ends: Ends, list: &[u16]) -> Result<u32, R
 /// The regret of a list of legs between two ends, in seconds. It is refused with the number 14 where the list is no
 /// route between them.
 pub fn regret<C: Chart>(chart: &C, ends: Ends, list: &[u16]) -> Result<u32, RegretRefusal>
-    ensures answers { RegretAnswer (query (C.legs chart.now) ends.from ends.to) list.now result }
+    ensures answers { IsRegretOutcome (query (C.legs chart.now) ends.from ends.to) list.now (regret_outcome result) }
     ensures worst_choice { WorstChoiceGivesRegret }
     ensures never_exceeded { RegretIsNeverExceeded }
     ensures every_route_has_one { EveryRouteHasARegret }

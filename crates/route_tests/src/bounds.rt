@@ -2,8 +2,8 @@
 use anyhow::ensure;
 use chart::limits::MAX_LEGS;
 use chart::{Chart, Ends, Row};
+use listing::{Chain, Listing};
 use pursuit::{ChainState, Pursuit, bound};
-use reference::{Chain, Listing};
 use search::Snapshot;
 use std::alloc::{AllocError, Global};
 

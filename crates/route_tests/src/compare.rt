@@ -4,7 +4,7 @@ use anyhow::{Context, ensure};
 use chart::{Chart, Ends, Refusal, Row};
 use floor::floor;
 use least::least_regret;
-use reference::{FILLER, Listing, are_untouched};
+use listing::{FILLER, Listing, are_untouched};
 use regret::regret;
 use std::alloc::{AllocError, Global};
 use std::fmt;

@@ -2,7 +2,7 @@
 use super::compare::Tally;
 use anyhow::Context;
 use chart::{Ends, Interval, Row, Standing, Table};
-use reference::DrawnNumbers;
+use listing::DrawnNumbers;
 use std::alloc::{AllocError, Global};
 use std::cmp::Ordering;
 

@@ -3,7 +3,7 @@ use super::compare::Tally;
 use super::drawn::Times;
 use anyhow::Context;
 use chart::{Lattice, Step};
-use reference::{DrawnNumbers, Turns, grid_rows};
+use listing::{DrawnNumbers, Turns, grid_rows};
 use std::alloc::Global;
 
 // The top level of every leg.

@@ -12,8 +12,8 @@ use Rattle.plan.specs.declared.refusals.AmendRefusal.{AmendRefusal}
 use Rattle.plan.specs.Amendments.{changed_leg, restores}
 use Rattle.plan.specs.Ledgers.{Ledger, grounds, insert_number, remove_number, ledger_by, ledger_after}
 use Rattle.runs.specs.declared.call.Call.{Call}
-use Rattle.runs.specs.declared.call.Call.TheVariants.{Amend, Route, Regret, Floor, Quickest, Level, Status}
-use Rattle.runs.specs.Histories.{ledger_after_call, ledger_after_calls, granted_amendments, granted_where, granted_by_call, apply_all, KeepsLedger, HistoriesJoin}
+use Rattle.runs.specs.declared.call.Call.TheVariants.{Amend}
+use Rattle.runs.specs.Histories.{ledger_after_call, ledger_after_calls, granted_amendments, granted_where, granted_by_call, apply_all, KeepsLedger, HistoriesKeepTheLedger, HistoriesJoin}
 
 -- a history of no calls
 no_calls_keep_ledger : (own : List Leg) (l : Ledger) → KeepsLedger own l []
@@ -90,20 +90,15 @@ kept_by_grounds (g ∷ gs) own l a = kept_unchanged own l
 kept_by_call : (own : List Leg) (l : Ledger) (call : Call) → IsKeptByCall own l (ledger_after_call own l call) (granted_by_call l call)
 unfolding ledger_after
 kept_by_call own l (Amend a) = kept_by_grounds (grounds l a) own l a
-kept_by_call own l (Route places) = kept_unchanged own l
-kept_by_call own l (Regret list) = kept_unchanged own l
-kept_by_call own l (Floor chain) = kept_unchanged own l
-kept_by_call own l Quickest = kept_unchanged own l
-kept_by_call own l Level = kept_unchanged own l
-kept_by_call own l Status = kept_unchanged own l
+kept_by_call own l _ = kept_unchanged own l
 
 -- every history keeps it
-pub calls_keep_ledger : (own : List Leg) (l : Ledger) (calls : List Call) → KeepsLedger own l calls
+pub histories_keep_the_ledger : HistoriesKeepTheLedger
 unfolding ledger_after_calls granted_amendments
-calls_keep_ledger own l [] = no_calls_keep_ledger own l
-calls_keep_ledger own l (call ∷ calls) =
+histories_keep_the_ledger own l [] = no_calls_keep_ledger own l
+histories_keep_the_ledger own l (call ∷ calls) =
     let k = kept_by_call own l call in
-    let later = calls_keep_ledger own (ledger_after_call own l call) calls in
+    let later = histories_keep_the_ledger own (ledger_after_call own l call) calls in
     record {
       revision = later.revision ∙ ap (λ n. n + length (granted_amendments own (ledger_after_call own l call) calls)) k.revision ∙ add_assoc l.revision (length (granted_by_call l call)) (length (granted_amendments own (ledger_after_call own l call) calls)) ∙ ap (λ n. l.revision + n) (sym (length-append (granted_by_call l call) (granted_amendments own (ledger_after_call own l call) calls)));
       legs = later.legs ∙ ap (λ xs. apply_all own xs (granted_amendments own (ledger_after_call own l call) calls)) k.legs ∙ sym (apply_all_append own l.legs (granted_by_call l call) (granted_amendments own (ledger_after_call own l call) calls));

@@ -1,4 +1,3 @@
-pub mod Replying
 pub mod LedgerKept
 pub mod OneMoreCall
 pub mod OneOutcome

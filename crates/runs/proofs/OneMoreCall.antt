@@ -19,7 +19,6 @@ use Rattle.runs.specs.Histories.{ledger_after_call, ledger_after_calls, call_pla
 use Rattle.runs.specs.RepliesTo.{IsReplyTo}
 use Rattle.runs.specs.Law.{part_of, HasRoomFor, AreRepliesTo, IsLawfulRun, grants}
 use Rattle.std.proofs.Math.Path.{transport}
-use Rattle.runs.proofs.LedgerKept.{calls_keep_ledger}
 
 -- a run has come as far as these calls: the law holds of them
 pub record IsRunSoFar {C : Type 0} (fixes : C → ℕ) (legs : C → List Leg) (c : C) (l : Ledger) (calls : List Call) (replies replies' : List Reply) (memory memory' : List ℕ) (used : ℕ) (plan : Filed C) : Type 0 where
@@ -233,14 +232,4 @@ pub all_calls_so_far : {C : Type 0} (fixes : C → ℕ) (legs : C → List Leg) 
     → IsLawfulRun fixes legs c l all replies replies' memory memory' plan
 all_calls_so_far fixes legs c l all i replies replies' memory memory' used plan h f so =
     let s = subst (λ cs. IsRunSoFar fixes legs c l cs replies replies' memory memory' used plan) (take_all i all h) so in
-    record {
-      fits = f;
-      replied = s.replied;
-      ledger = s.ledger;
-      keeps_ledger = calls_keep_ledger (legs c) l all;
-      keeps_at_every_call = λ j. calls_keep_ledger (legs c) l (take j all);
-      counted = s.counted;
-      chart = s.chart;
-      means_fixes = ap fixes s.chart;
-      means_legs = ap (λ (x : Ledger). x.legs) s.ledger;
-    }
+    record { fits = f; replied = s.replied; ledger = s.ledger; counted = s.counted; chart = s.chart }

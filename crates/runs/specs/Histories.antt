@@ -54,6 +54,10 @@ pub record KeepsLedger (own : List Leg) (l : Ledger) (calls : List Call) : Type 
   pub destination : (ledger_after_calls own l calls).destination ≡ l.destination
   pub no_repeats : HasNoRepeats l.amended → HasNoRepeats (ledger_after_calls own l calls).amended
 
+-- every history keeps the ledger so
+abbrev pub HistoriesKeepTheLedger : Type 0
+HistoriesKeepTheLedger = (own : List Leg) (l : Ledger) (calls : List Call) → KeepsLedger own l calls
+
 -- how many places of memory a call takes: a route call as many as it says, and any other none
 abbrev pub call_places : Call → ℕ
 call_places (Route places) = places

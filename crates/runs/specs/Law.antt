@@ -1,5 +1,5 @@
 -- The law of runs: what a run of calls replies, leaves in the memory, and makes of the plan.
-use Rattle.std.specs.Prelude.{◌≡◌, ℕ, ◌+◌, ◌<◌, ◌≤◌, Bool, true, false, List, length, take, drop, Some, Ok, Err, slice_get, codes}
+use Rattle.std.specs.Prelude.{◌≡◌, ℕ, ◌+◌, ◌<◌, ◌≤◌, Bool, true, false, List, length, take, drop, Some, Ok, slice_get, codes}
 use Rattle.std.specs.List.{count_by}
 use Rattle.chart.specs.declared.leg.Leg.{Leg}
 use Rattle.chart.specs.declared.Ends.{Ends}
@@ -12,7 +12,7 @@ use Rattle.runs.specs.declared.reply.Reply.{Reply}
 use Rattle.runs.specs.declared.reply.Reply.TheVariants as reply
 use Rattle.runs.specs.declared.run.RunRefusal.{RunRefusal}
 use Rattle.runs.specs.declared.run.RunRefusal.TheVariants.{FewReplies, ShortMemory}
-use Rattle.runs.specs.Histories.{ledger_after_calls, granted_amendments, apply_all, KeepsLedger, call_places, all_places}
+use Rattle.runs.specs.Histories.{ledger_after_calls, granted_amendments, apply_all, call_places, all_places}
 use Rattle.runs.specs.Outcomes.{outcome_of, question_of_reply}
 use Rattle.runs.specs.RepliesTo.{IsReplyTo}
 
@@ -51,18 +51,14 @@ grants (reply.Amend (Ok revision)) = true
 grants _ = false
 
 -- A run of calls on a plan that has the chart c and stands at the ledger l leaves the plan plan': every call has its reply,
--- the plan stands at the ledger that the calls come to, its revision has risen by the amendments that were granted, its chart is what it
--- was, and as a chart it means the chart's fixes and that ledger's legs.
+-- the plan stands at the ledger that the calls come to, its revision has risen by the amendments that were granted, and its chart is what
+-- it was.
 pub record IsLawfulRun {C : Type 0} (fixes : C → ℕ) (legs : C → List Leg) (c : C) (l : Ledger) (calls : List Call) (replies replies' : List Reply) (memory memory' : List ℕ) (plan' : Filed C) : Type 0 where
   pub fits : HasRoomFor calls (length replies) (length memory)
   pub replied : AreRepliesTo (fixes c) (legs c) l calls replies replies' memory memory'
   pub ledger : ledger_of legs plan' ≡ ledger_after_calls (legs c) l calls
-  pub keeps_ledger : KeepsLedger (legs c) l calls
-  pub keeps_at_every_call : (i : ℕ) → KeepsLedger (legs c) l (take i calls)
   pub counted : revision_of plan' ≡ l.revision + count_by grants (take (length calls) replies')
   pub chart : chart_of plan' ≡ c
-  pub means_fixes : fixes (chart_of plan') ≡ fixes c
-  pub means_legs : plan_legs legs plan' ≡ (ledger_after_calls (legs c) l calls).legs
 
 -- what a plan comes to that is filed and then runs its calls: its revision is the number of amendments granted among them, its legs are
 -- the chart's with just those applied, in their order, and no number stands twice among the amended ones

@@ -1,35 +1,23 @@
--- The outcome of a reply: for each of its cases the values that it answers, or the number that it is refused with.
-use Rattle.std.specs.Prelude.{ℕ, List, [], ◌∷◌, Ok, Err}
-use Rattle.regret.specs.Answers.{regret_number}
-use Rattle.floor.specs.Answers.{floor_number}
-use Rattle.least.specs.Answers.{route_number}
-use Rattle.plan.specs.Refusals.{amend_number, best_number}
+-- The outcome of a reply, and the question that it answers.
+use Rattle.chart.specs.Outcomes.{Outcome}
+use Rattle.regret.specs.Answers.{regret_outcome}
+use Rattle.floor.specs.Answers.{floor_outcome}
+use Rattle.least.specs.Answers.{route_outcome}
+use Rattle.plan.specs.Answers.{amend_outcome, quickest_outcome, level_outcome, status_outcome}
 use Rattle.runs.specs.declared.call.Call.{Call}
 use Rattle.runs.specs.declared.call.Call.TheVariants as call
 use Rattle.runs.specs.declared.reply.Reply.{Reply}
 use Rattle.runs.specs.declared.reply.Reply.TheVariants as reply
 
--- values, or the number of a refusal
-pub data Outcome : Type 0 where
-  granted : List ℕ → Outcome
-  refused : ℕ → Outcome
-
--- an amendment says the new revision, a route its legs and its regret, a regret and a floor the seconds, quickest the seconds and
--- the legs, a level itself, and a status the revision, the number of amended legs and the two ends
+-- the outcome of a reply is that of the answer which it holds
 abbrev pub outcome_of : Reply → Outcome
-outcome_of (reply.Amend (Ok revision)) = granted (revision ∷ [])
-outcome_of (reply.Amend (Err e)) = refused (amend_number e)
-outcome_of (reply.Route (Ok found)) = granted (found.legs ∷ found.regret ∷ [])
-outcome_of (reply.Route (Err e)) = refused (route_number e)
-outcome_of (reply.Regret (Ok seconds)) = granted (seconds ∷ [])
-outcome_of (reply.Regret (Err e)) = refused (regret_number e)
-outcome_of (reply.Floor (Ok seconds)) = granted (seconds ∷ [])
-outcome_of (reply.Floor (Err e)) = refused (floor_number e)
-outcome_of (reply.Quickest (Ok total)) = granted (total.seconds ∷ total.legs ∷ [])
-outcome_of (reply.Quickest (Err e)) = refused (best_number e)
-outcome_of (reply.Level (Ok top)) = granted (top ∷ [])
-outcome_of (reply.Level (Err e)) = refused (best_number e)
-outcome_of (reply.Status status) = granted (status.revision ∷ status.amended ∷ status.ends.from ∷ status.ends.to ∷ [])
+outcome_of (reply.Amend r) = amend_outcome r
+outcome_of (reply.Route r) = route_outcome r
+outcome_of (reply.Regret r) = regret_outcome r
+outcome_of (reply.Floor r) = floor_outcome r
+outcome_of (reply.Quickest r) = quickest_outcome r
+outcome_of (reply.Level r) = level_outcome r
+outcome_of (reply.Status s) = status_outcome s
 
 -- the seven questions
 pub data Question : Type 0 where

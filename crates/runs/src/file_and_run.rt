@@ -1,9 +1,10 @@
 // A draft that is filed and then runs its calls.
 ghost use Rattle.std.specs.Prelude.{◌≡◌, length, MatchResult, IfOk, OnErr};
+ghost use Rattle.chart.specs.Regret.{EveryRouteHasARegret};
 ghost use Rattle.plan.specs.Ledgers.{at_filing};
 ghost use Rattle.plan.specs.Plans.{chart_of_draft, ends_of_draft};
-ghost use Rattle.runs.specs.Histories.{ledger_after_calls};
-ghost use Rattle.runs.specs.Law.{RunRefused, IsLawfulRun, IsRunFromFiling};
+ghost use Rattle.runs.specs.Histories.{ledger_after_calls, HistoriesJoin, HistoriesKeepTheLedger};
+ghost use Rattle.runs.specs.Law.{RunRefused, IsLawfulRun, IsRunFromFiling, RunsHaveOneOutcome};
 
 use super::call::Call;
 use super::reply::Reply;
@@ -22,6 +23,7 @@ pub struct RunRejected<C> {
 
 /// Files the draft and executes the calls in their order, as `run` does. Where there are fewer replies than calls, and else where
 /// the memory has too few places, the draft is not filed and comes back as it was; the replies and the memory stay what they were.
+#[tactic(auto, using(crate::proofs::LedgerKept::histories_join, crate::proofs::LedgerKept::histories_keep_the_ledger, regret::proofs::EveryRouteHasRegret::every_route_has_a_regret))]
 pub fn file_and_run<C: Chart>(
     draft: Draft<C>,
     calls: &[Call<'_>],
@@ -40,6 +42,10 @@ pub fn file_and_run<C: Chart>(
         × (⟦<Filed<C> as Chart>⟧.legs plan
         ≡ (ledger_after_calls (C.legs (chart_of_draft draft))
         (at_filing (C.legs (chart_of_draft draft)) (ends_of_draft draft)) calls.now).legs)) }
+    ensures histories_join { HistoriesJoin }
+    ensures every_history_keeps_the_ledger { HistoriesKeepTheLedger }
+    ensures every_route_has_a_regret { EveryRouteHasARegret }
+    ensures one_outcome { RunsHaveOneOutcome }
     ensures refused { OnErr result ((replies.new ≡ replies.old) × (memory.new ≡ memory.old)) }
 {
     if let Err(refusal) = check_room(calls, replies.len(), memory.len()) {

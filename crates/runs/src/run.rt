@@ -1,8 +1,9 @@
 // Runs of calls on a filed plan, and why a run is rejected.
 ghost use Rattle.std.specs.Prelude.{◌≡◌, ◌+◌, [], ◌∷◌, length, Some, MatchResult, OnOk, OnErr};
 ghost use Rattle.std.specs.List.{count_by};
+ghost use Rattle.chart.specs.Regret.{EveryRouteHasARegret};
 ghost use Rattle.plan.specs.Plans.{chart_of, ledger_of, revision_of};
-ghost use Rattle.runs.specs.Histories.{ledger_after_call, ledger_after_calls, HistoriesJoin};
+ghost use Rattle.runs.specs.Histories.{ledger_after_call, ledger_after_calls, HistoriesJoin, HistoriesKeepTheLedger};
 ghost use Rattle.runs.specs.RepliesTo.{IsReplyTo};
 ghost use Rattle.runs.specs.Law.{grants, HasRoomFor, RunRefused, IsLawfulRun, RunsHaveOneOutcome};
 
@@ -83,6 +84,7 @@ fn execute<C: Chart>(plan: &mut Filed<C>, call: &Call<'_>, part: &mut [u16]) -> 
 /// says; replies and places beyond those that the calls take keep what they held. The run is rejected where there are fewer
 /// replies than calls, and else where the memory has too few places; no call is then executed, and the plan, the replies and the
 /// memory stay what they were.
+#[tactic(auto, using(crate::proofs::LedgerKept::histories_join, crate::proofs::LedgerKept::histories_keep_the_ledger, regret::proofs::EveryRouteHasRegret::every_route_has_a_regret))]
 pub fn run<C: Chart>(
     plan: &mut Filed<C>,
     calls: &[Call<'_>],
@@ -98,6 +100,8 @@ pub fn run<C: Chart>(
         × (⟦<Filed<C> as Chart>⟧.legs plan.new
         ≡ (ledger_after_calls (C.legs (chart_of plan.old)) (ledger_of C.legs plan.old) calls.now).legs)) }
     ensures histories_join { HistoriesJoin }
+    ensures every_history_keeps_the_ledger { HistoriesKeepTheLedger }
+    ensures every_route_has_a_regret { EveryRouteHasARegret }
     ensures one_outcome { RunsHaveOneOutcome }
     ensures refused { OnErr result ((plan.new ≡ plan.old) × (replies.new ≡ replies.old) × (memory.new ≡ memory.old)) }
 {

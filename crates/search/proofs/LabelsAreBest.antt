@@ -1,17 +1,18 @@
--- The search begins and ends, and where there is no route without a search.
-use Rattle.std.proofs.Common.{◌≡◌, ℕ, ◌<◌, ◌≤◌, List, [], ◌∷◌, length, set, replicate, sym, refl, ◌∙◌, subst, ⊎_elim, arith, length-set}
+-- How the search begins, and what its end tells: where it picks the destination, whose label is then best, or where no fix is
+-- reached and not settled.
+use Rattle.std.proofs.Common.{◌≡◌, ℕ, ◌<◌, ◌≤◌, ◌⊎◌, List, [], ◌∷◌, length, set, replicate, sym, refl, ◌∙◌, subst, inl, inr, ⊎_elim, arith, length-set}
 use Rattle.std.proofs.lemmas.List.{get_or-set_same, get_or-set_other, get_or_past, get_or-replicate, length-replicate}
 use Rattle.std.proofs.lemmas.Bool.{cases_eq, cases_lt}
 use Rattle.chart.specs.Legs.{leg_at, IsChart}
 use Rattle.chart.specs.Limits.{max_fixes}
 use Rattle.chart.specs.Kinds.{Laws}
 use Rattle.chart.specs.Best.{total_from, IsBest}
-use Rattle.chart.specs.Routes.{Leads, IsRouteBetween}
+use Rattle.chart.specs.Routes.{Leaves, Leads, IsRouteBetween}
 use Rattle.search.specs.declared.search_state.FixState.{FixState}
-use Rattle.search.specs.declared.search_state.FixState.TheVariants.{Unreached, Reached}
-use Rattle.search.specs.internal.Labels.{state_at, label_at, IsLabelled, IsSettled}
+use Rattle.search.specs.declared.search_state.FixState.TheVariants.{Unreached, Reached, Settled}
+use Rattle.search.specs.internal.Labels.{state_at, label_at, IsLabelled, IsSettled, IsBestReached}
 use Rattle.search.specs.internal.Invariants.{SearchProblem, LabelPath, SearchInvariant}
-use Rattle.search.proofs.FixStates.{as_good_as_itself, reached_not_settled, reached_not_unreached, settled_not_unreached, only_settled}
+use Rattle.search.proofs.FixStates.{as_good_as_itself, reached_not_settled, reached_not_unreached, settled_not_unreached, only_reached, only_settled}
 
 -- before the first step the departure is reached, at the start
 module _ {T : Type 0} (q : SearchProblem T) (laws : Laws q.rule) (is_chart : IsChart q.fixes q.legs) (fix : q.departure < q.fixes) where
@@ -27,7 +28,7 @@ module _ {T : Type 0} (q : SearchProblem T) (laws : Laws q.rule) (is_chart : IsC
   away : (x : ℕ) → (x ≡ q.departure → ⊥) → state_at (set (replicate max_fixes Unreached) q.departure Reached) x ≡ Unreached
   away x ne = get_or-set_other (replicate max_fixes Unreached) q.departure x Reached Unreached ne ∙ unreached x
 
-  none_settled : (x : ℕ) → IsSettled (set (replicate max_fixes Unreached) q.departure Reached) x → ⊥
+  pub none_settled : (x : ℕ) → IsSettled (set (replicate max_fixes Unreached) q.departure Reached) x → ⊥
   none_settled x d = ⊎_elim (λ e. reached_not_settled _ here (subst (λ y. IsSettled (set (replicate max_fixes Unreached) q.departure Reached) y) e d)) (λ ne. settled_not_unreached _ d (away x ne)) (cases_eq x q.departure)
 
   label_here : label_at q.rule (replicate max_fixes q.rule.start) q.departure ≡ q.rule.start
@@ -58,31 +59,62 @@ module _ {T : Type 0} (q : SearchProblem T) (laws : Laws q.rule) (is_chart : IsC
         relaxed = λ x k l d. absurd (none_settled x d);
       }
 
--- after the last step no fix is reached and not settled
-module _ {T : Type 0} {q : SearchProblem T} (laws : Laws q.rule) {label : List T} {state : List FixState} (rest : SearchInvariant q label state) (over : (w : ℕ) → w < q.fixes → state_at state w ≡ Reached → ⊥) where
-  settled : (v : ℕ) → IsLabelled state v → IsSettled state v
-  settled v h = only_settled (state_at state v) h (over v (rest.within v h))
+-- between two steps, along a chain
+module _ {T : Type 0} {q : SearchProblem T} (laws : Laws q.rule) {label : List T} {state : List FixState} (rest : SearchInvariant q label state) where
+  -- adding legs never betters a total
+  no_better : (ks : List ℕ) (t : T) → q.rule.order t (total_from q.rule q.legs t ks)
+  no_better [] t = as_good_as_itself laws t
+  no_better (k ∷ ks) t =
+      let more = q.rule.add t k (leg_at q.legs k) in
+      laws.transitive t more (total_from q.rule q.legs more ks) (laws.add_inflationary t k (leg_at q.legs k)) (no_better ks more)
 
-  -- along a chain from a fix whose label is as good as t, each label is as good as t with the legs added
-  labels_lead : (ks : List ℕ) (v z : ℕ) (t : T) → IsLabelled state v → q.rule.order (label_at q.rule label v) t → Leads q.legs v ks z → IsLabelled state z × q.rule.order (label_at q.rule label z) (total_from q.rule q.legs t ks)
-  labels_lead [] v z t h o e = (subst (λ y. IsLabelled state y) e h, subst (λ y. q.rule.order (label_at q.rule label y) t) e o)
-  labels_lead (k ∷ ks) v z t h o c =
-      let relaxed = rest.relaxed v k c.0 (settled v h) (λ _. c.0.there) in
-      labels_lead ks (leg_at q.legs k).to z (q.rule.add t k (leg_at q.legs k)) relaxed.labelled
-      (laws.transitive _ _ _ relaxed.good (laws.add_monotone (label_at q.rule label v) t k (leg_at q.legs k) o))
-      c.1
+  -- a settled fix hands on what its label is as good as
+  onward_good : (v k : ℕ) (t : T) → IsSettled state v → Leaves q.legs v k → q.rule.order (label_at q.rule label v) t → q.rule.order (label_at q.rule label (leg_at q.legs k).to) (q.rule.add t k (leg_at q.legs k))
+  onward_good v k t d l o =
+      laws.transitive _ _ _ (rest.relaxed v k l d (λ _. l.there)).good (laws.add_monotone (label_at q.rule label v) t k (leg_at q.legs k) o)
 
-  pub no_route_to_unreached : (z : ℕ) → state_at state z ≡ Unreached → (ks : List ℕ) → IsRouteBetween q.legs q.departure z ks → ⊥
-  no_route_to_unreached z b ks r = (labels_lead ks q.departure z q.rule.start rest.labelled rest.begins r.chain.leads).0 b
+  -- where no fix is reached and not settled, a chain from a settled fix leads to a settled one
+  module _ (none : (w : ℕ) → w < q.fixes → state_at state w ≡ Reached → ⊥) where
+    settled : (v : ℕ) → IsLabelled state v → IsSettled state v
+    settled v h = only_settled (state_at state v) h (none v (rest.within v h))
 
-  pub label_is_best : (z : ℕ) → IsLabelled state z → (q.departure ≡ z → ⊥) → IsBest q.rule q.legs q.departure z (label_at q.rule label z)
-  label_is_best z h apart =
-      let path = rest.paths z h in
-      record {
-        some = (path.by, record { chain = path.chain; some = legs_some path.by path.chain.leads }, path.sums);
-        every = λ ks r. (labels_lead ks q.departure z q.rule.start rest.labelled rest.begins r.chain.leads).1;
-      }
-    where
-      legs_some : (ks : List ℕ) → Leads q.legs q.departure ks z → 1 ≤ length ks
-      legs_some [] e = absurd (apart e)
-      legs_some (k ∷ ks) l = omega arith
+    leads_to_settled : (ks : List ℕ) (v z : ℕ) → IsSettled state v → Leads q.legs v ks z → IsSettled state z
+    leads_to_settled [] v z d e = subst (λ y. IsSettled state y) e d
+    leads_to_settled (k ∷ ks) v z d c = leads_to_settled ks (leg_at q.legs k).to z (settled (leg_at q.legs k).to (rest.relaxed v k c.0 d (λ _. c.0.there)).labelled) c.1
+
+    pub no_route_to_unsettled : (z : ℕ) → (IsSettled state z → ⊥) → (ks : List ℕ) → IsRouteBetween q.legs q.departure z ks → ⊥
+    no_route_to_unsettled z n ks r = n (leads_to_settled ks q.departure z (settled q.departure rest.labelled) r.chain.leads)
+
+  -- the fix z is the best of those that are reached and not settled
+  module _ {z : ℕ} (pick : IsBestReached q.rule label state q.fixes z) where
+    reached_no_better : (ks : List ℕ) (v : ℕ) (t : T) → IsLabelled state v → (IsSettled state v → ⊥) → q.rule.order (label_at q.rule label v) t → q.rule.order (label_at q.rule label z) (total_from q.rule q.legs t ks)
+    reached_no_better ks v t h n o =
+        let first = pick.first v (rest.within v h) (only_reached (state_at state v) h n) in
+        laws.transitive _ _ _ first (laws.transitive _ _ _ o (no_better ks t))
+
+    good_along : (ks : List ℕ) (v : ℕ) (t : T) → IsLabelled state v → q.rule.order (label_at q.rule label v) t → Leads q.legs v ks z → q.rule.order (label_at q.rule label z) (total_from q.rule q.legs t ks)
+    good_along [] v t h o e = subst (λ y. q.rule.order (label_at q.rule label y) t) e o
+    good_along (k ∷ ks) v t h o c =
+        let to = (leg_at q.legs k).to in
+        let more = q.rule.add t k (leg_at q.legs k) in
+        ⊎_elim
+        (λ d. good_along ks to more (rest.relaxed v k c.0 d (λ _. c.0.there)).labelled (onward_good v k t d c.0 o) c.1)
+        (λ n. reached_no_better (k ∷ ks) v t h n o)
+        (settled_or (state_at state v))
+      where
+        settled_or : (m : FixState) → (m ≡ Settled) ⊎ (m ≡ Settled → ⊥)
+        settled_or Settled = inl refl
+        settled_or Reached = inr (λ e. reached_not_settled Reached refl e)
+        settled_or Unreached = inr (λ e. settled_not_unreached Unreached e refl)
+
+    pub picked_is_best : (q.departure ≡ z → ⊥) → IsBest q.rule q.legs q.departure z (label_at q.rule label z)
+    picked_is_best apart =
+        let path = rest.paths z (reached_not_unreached _ pick.reached) in
+        record {
+          some = (path.by, record { chain = path.chain; some = legs_some path.by path.chain.leads }, path.sums);
+          every = λ ks r. good_along ks q.departure q.rule.start rest.labelled rest.begins r.chain.leads;
+        }
+      where
+        legs_some : (ks : List ℕ) → Leads q.legs q.departure ks z → 1 ≤ length ks
+        legs_some [] e = absurd (apart e)
+        legs_some (k ∷ ks) l = omega arith

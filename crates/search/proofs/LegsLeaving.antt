@@ -10,7 +10,7 @@ use Rattle.chart.specs.Limits.{max_fixes}
 use Rattle.search.specs.declared.snapshot.IndexedLeg.{IndexedLeg}
 use Rattle.search.specs.declared.snapshot.Snapshot.{Snapshot}
 use Rattle.search.specs.LegsLeaving.{IsFirstLeg, legs_leaving}
-use Rattle.search.specs.internal.Index.{legs_left_from}
+use Rattle.search.specs.LegsLeaving.{legs_left_from}
 use Rattle.search.specs.Snapshots.{snapshot_fixes, snapshot_legs, IsNextLeg}
 use Rattle.search.specs.laws.SnapshotLaws.{snapshot_is_chart}
 use Rattle.search.proofs.AdjacencyIndexes.{first_legs_length, first_legs_at, first_below}

@@ -10,7 +10,7 @@ use Rattle.chart.specs.Routes.{Leaves, fixes_of_chain, IsIn}
 use Rattle.search.specs.declared.search_state.FixState.{FixState}
 use Rattle.search.specs.declared.search_state.FixState.TheVariants.{Reached}
 use Rattle.search.specs.internal.Labels.{label_at, IsLabelled, IsSettled, settled_count}
-use Rattle.search.specs.internal.Invariants.{SearchProblem, LabelPath, IsRelaxed, IsRelaxedUpTo, RelaxingInvariant, IsImproved, took, held}
+use Rattle.search.specs.internal.Invariants.{SearchProblem, LabelPath, IsRelaxed, IsRelaxedUpTo, RelaxingInvariant, SettlesNone, IsImproved, took, held}
 use Rattle.chart.proofs.Chains.{in_chain_push, chain_push, total_push, made_of_its_legs}
 use Rattle.search.proofs.FixStates.{as_good_as_itself, reached_not_settled, reached_not_unreached, settled_not_unreached, labelled_small, state_here, settled_on, settled_back, labelled_on, labelled_back, settled_same, settled_not_all}
 
@@ -209,12 +209,25 @@ module _ {T : Type 0} {q : SearchProblem T} (laws : Laws q.rule) {label : List T
   takes_settled_same : settled_count (set state (ends q j) Reached) ≡ settled_count state
   takes_settled_same = settled_same state (ends q j) in_states unsettled
 
--- what is left of a leg whose total was brought: the relaxing goes on, and as many fixes are settled as before
+  takes_settles_none : SettlesNone state (set state (ends q j) Reached)
+  takes_settles_none x d = (settled_back state (ends q j) in_states unsettled x d).0
+
+-- what a leg does whose total was brought
+pub record RelaxesLeg {T : Type 0} (q : SearchProblem T) (state : List FixState) (u j : ℕ) (label' : List T) (state' : List FixState) : Type 0 where
+  pub relaxing : RelaxingInvariant q label' state' u (j + 1)
+  pub count : settled_count state' ≡ settled_count state
+  pub settled : SettlesNone state state'
+
+-- the relaxing goes on, and just those fixes are settled that were
 module _ {T : Type 0} {q : SearchProblem T} (laws : Laws q.rule) {label : List T} {state : List FixState} {u j : ℕ} (relaxing : RelaxingInvariant q label state u j)
     (is_chart : IsChart q.fixes q.legs) (leaves : Leaves q.legs u j) (unsettled : IsSettled state (ends q j) → ⊥) where
-  pub relaxing_improved : {label' : List T} {state' : List FixState} → IsImproved q.rule label state (ends q j) (onward q label u j) label' state' → RelaxingInvariant q label' state' u (j + 1) × (settled_count state' ≡ settled_count state)
+  pub relaxing_improved : {label' : List T} {state' : List FixState} → IsImproved q.rule label state (ends q j) (onward q label u j) label' state' → RelaxesLeg q state u j label' state'
   relaxing_improved (took el em better) =
-      subst₂ (λ l n. RelaxingInvariant q l n u (j + 1) × (settled_count n ≡ settled_count state)) (sym el) (sym em)
-      (relaxing_takes laws relaxing is_chart leaves unsettled better, takes_settled_same laws relaxing is_chart leaves unsettled better)
+      subst₂ (λ l n. RelaxesLeg q state u j l n) (sym el) (sym em)
+      (record {
+        relaxing = relaxing_takes laws relaxing is_chart leaves unsettled better;
+        count = takes_settled_same laws relaxing is_chart leaves unsettled better;
+        settled = takes_settles_none laws relaxing is_chart leaves unsettled better;
+      })
   relaxing_improved (held el em labelled o) =
-      subst₂ (λ l n. RelaxingInvariant q l n u (j + 1) × (settled_count n ≡ settled_count state)) (sym el) (sym em) (relaxing_holds laws relaxing labelled o, refl)
+      subst₂ (λ l n. RelaxesLeg q state u j l n) (sym el) (sym em) (record { relaxing = relaxing_holds laws relaxing labelled o; count = refl; settled = λ x d. d })

@@ -1,5 +1,5 @@
 -- The legs that leave a fix, in rising order of their numbers.
-use Rattle.std.specs.Prelude.{◌≡◌, ℕ, ◌-◌, ◌<◌, ◌≤◌, ◌==◌, List, length, Option, ◌≢◌}
+use Rattle.std.specs.Prelude.{◌≡◌, ℕ, ◌-◌, ◌<◌, ◌≤◌, ◌==◌, List, [], length, Some, None, Option, ◌≢◌}
 use Rattle.std.specs.Option.{MatchOption}
 use Rattle.std.specs.List.{filter, range_with_len}
 use Rattle.chart.specs.declared.leg.Leg.{Leg}
@@ -20,3 +20,8 @@ IsFirstLeg legs v low r =
 -- the numbers of the legs that leave the fix v and have the number `low` or more, rising
 unfoldable pub legs_leaving : List Leg → ℕ → ℕ → List ℕ
 legs_leaving legs v low = filter (λ k. (leg_at legs k).from == v) (range_with_len low (length legs - low))
+
+-- the numbers from j on of the legs that leave the same fix as the leg j, rising: what is left of the legs that leave it
+abbrev pub legs_left_from : List Leg → Option ℕ → List ℕ
+legs_left_from legs None = []
+legs_left_from legs (Some j) = legs_leaving legs (leg_at legs j).from j

@@ -1,4 +1,5 @@
--- How the code stands between two steps: no promise of `best` or of a walk cites it.
+-- How the code stands between two steps: the clauses of private functions cite it, and the invariants of a snapshot and of what
+-- goes through its legs. No clause of a public call does.
 pub mod Index
 pub mod Labels
 pub mod Invariants

@@ -1,5 +1,5 @@
 // The best total of a route, by settling one fix after the other, the best first.
-ghost use Rattle.chart.specs.Best.{BestTotal};
+ghost use Rattle.chart.specs.Best.{BestTotal, BestTotalIsUnique};
 ghost use Rattle.search.specs.Snapshots.{snapshot_legs};
 
 use super::search_state::{FixState, Search};
@@ -30,7 +30,8 @@ pub fn best_on<K: Kind>(snapshot: &Snapshot, kind: &K, ends: Ends) -> Option<K::
 /// The best total, of the kind that is given, over all routes of a chart between two ends; none where there is no
 /// route, as `best_on` has it. It takes a snapshot of the chart for this one question.
 pub fn best<C: Chart, K: Kind>(chart: &C, kind: &K, ends: Ends) -> Option<K::Total>
-    ensures { BestTotal (K.rule kind.now) (C.legs chart.now) ends.from ends.to result }
+    ensures best_total { BestTotal (K.rule kind.now) (C.legs chart.now) ends.from ends.to result }
+    ensures unique { BestTotalIsUnique (K.rule kind.now) }
 {
     let snapshot = Snapshot::of(chart);
     best_on(&snapshot, kind, ends)

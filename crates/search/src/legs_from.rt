@@ -17,7 +17,8 @@ impl<'a> Model for LegsFrom<'a> {
     ghost Value = { List ℕ };
 
     ghost use Rattle.search.specs.Snapshots.{snapshot_legs};
-    ghost use Rattle.search.specs.internal.Index.{legs_left_from, IsLeg};
+    ghost use Rattle.search.specs.LegsLeaving.{legs_left_from};
+    ghost use Rattle.search.specs.internal.Index.{IsLeg};
 
     ghost view = { λ it. legs_left_from (snapshot_legs it.snapshot.now) it.next };
 

@@ -1,5 +1,6 @@
 // A search: over which snapshot and for which kind of total, and how far it has come with each fix. It picks the best
-// of the fixes that are reached, settles it, and goes on until none is reached and not settled.
+// of the fixes that are reached, settles it, and goes on until it picks the destination, or none is reached and not
+// settled.
 ghost use Rattle.std.specs.Prelude.{◌≡◌, ◌+◌, ◌<◌, length};
 ghost use Rattle.chart.specs.Limits.{max_fixes};
 
@@ -49,13 +50,12 @@ impl<'a, K: Kind> Search<'a, K> {
         let destination = ends.to as usize;
         self.state[ends.from as usize] = FixState::Reached;
         while let Some(u) = self.pick() {
+            if u == destination {
+                return Some(self.label[u]);
+            }
             self.settle(u);
         }
-        let state = self.state[destination];
-        if state == FixState::Unreached {
-            return None;
-        }
-        Some(self.label[destination])
+        None
     }
 
     // The better of two fixes by their labels, and the first where neither is.
@@ -140,7 +140,7 @@ impl<'a, K: Kind> Search<'a, K> {
         requires pick { IsBestReached (K.rule self.old.kind.now) self.old.label.now self.old.state.now
             (snapshot_fixes self.old.snapshot.now) u }
         ensures same { KeepsProblem self.old.snapshot.now self.old.kind.now self.new.snapshot.now self.new.kind.now }
-        ensures settles { Settles (K.rule self.old.kind.now) self.old.snapshot.now self.old.label.now self.old.state.now
+        ensures settles { Settles (K.rule self.old.kind.now) self.old.snapshot.now u self.old.label.now self.old.state.now
             self.new.label.now self.new.state.now }
     {
         self.state[u] = FixState::Settled;

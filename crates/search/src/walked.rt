@@ -1,5 +1,5 @@
 // A chain that was walked along.
-ghost use Rattle.std.specs.Prelude.{◌≡◌, ◌+◌, ◌^◌, ◌<◌, false, true, length, replicate, slice_set};
+ghost use Rattle.std.specs.Prelude.{◌≡◌, ◌<◌, false, true, length, replicate, slice_set};
 ghost use Rattle.chart.specs.Limits.{max_fixes, max_legs};
 
 use chart::Leg;
@@ -44,18 +44,16 @@ impl Walked {
         }
     }
 
-    // Goes on by the leg, which has the number `k`.
+    // Goes on by the leg, which has the number `k`, but for the sum of times, which the walk itself adds up.
     pub(crate) fn extend(&mut self, k: u16, leg: &Leg)
-        requires places { (leg.now.to < max_fixes) × (k < max_legs) }
-        requires sum { self.old.high + leg.now.high < 2 ^ 32 }
+        requires { (leg.now.to < max_fixes) × (k < max_legs) }
         ensures from { self.new.from ≡ self.old.from }
         ensures end { self.new.end ≡ leg.now.to }
-        ensures high { self.new.high ≡ self.old.high + leg.now.high }
+        ensures high { self.new.high ≡ self.old.high }
         ensures used { self.new.used ≡ slice_set self.old.used leg.now.to true }
         ensures flown { self.new.flown ≡ slice_set self.old.flown k true }
     {
         self.end = leg.to;
-        self.high += leg.high;
         self.used[leg.to as usize] = true;
         self.flown[k as usize] = true;
     }

@@ -36,6 +36,7 @@ pub fn walk(snapshot: &Snapshot, from: u16, list: &[u16]) -> Option<Walked>
     let mut walked = Walked::at(from);
     for k in list {
         let leg = step(snapshot, walked.end, &walked.used, *k)?;
+        walked.high += leg.high;
         walked.extend(*k, &leg);
     }
     Some(walked)

@@ -46,8 +46,8 @@ module _ (a b c d e : Standing) where
   top : (k : ℕ) → k < 5 → (leg_at (legs_with a b c d e) k).top ≡ (row_at (rows_with a b c d e) k).top
   top k h = ap (λ (r : Row). r.top) (leg_is a b c d e k h)
 
-  numbers : FourFixNumbers (legs_with a b c d e)
-  numbers = record {
+  four_fix_numbers : FourFixNumbers (legs_with a b c d e)
+  four_fix_numbers = record {
     high0 = high 0 (omega arith);
     high1 = high 1 (omega arith);
     high2 = high 2 (omega arith);
@@ -95,7 +95,7 @@ least v x ks route sum p q r = record { by = ks; is_route = route; takes = sum; 
 
 regret_one : HasRegret four_fix_query (0 ∷ 1 ∷ []) 450
 regret_one =
-    let n = numbers Open Open Open Open Open in
+    let n = four_fix_numbers Open Open Open Open Open in
     let w = worst open_legs (0 ∷ 1 ∷ []) in
     worst_choice_gives_regret four_fix_query (0 ∷ 1 ∷ []) w 450 450 one (worst_is_worst open_legs (0 ∷ 1 ∷ []))
     (least w 450 (2 ∷ 3 ∷ []) two (omega arith) (omega arith) (omega arith) (omega arith))
@@ -103,7 +103,7 @@ regret_one =
 
 regret_both : HasRegret four_fix_query (0 ∷ 4 ∷ 3 ∷ []) 300
 regret_both =
-    let n = numbers Open Open Open Open Open in
+    let n = four_fix_numbers Open Open Open Open Open in
     let w = worst open_legs (0 ∷ 4 ∷ 3 ∷ []) in
     worst_choice_gives_regret four_fix_query (0 ∷ 4 ∷ 3 ∷ []) w 650 300 both (worst_is_worst open_legs (0 ∷ 4 ∷ 3 ∷ []))
     (least w 650 (2 ∷ 3 ∷ []) two (omega arith) (omega arith) (omega arith) (omega arith))
@@ -111,7 +111,7 @@ regret_both =
 
 regret_two : HasRegret four_fix_query (2 ∷ 3 ∷ []) 450
 regret_two =
-    let n = numbers Open Open Open Open Open in
+    let n = four_fix_numbers Open Open Open Open Open in
     let w = worst open_legs (2 ∷ 3 ∷ []) in
     worst_choice_gives_regret four_fix_query (2 ∷ 3 ∷ []) w 600 450 two (worst_is_worst open_legs (2 ∷ 3 ∷ []))
     (least w 600 (0 ∷ 1 ∷ []) one (omega arith) (omega arith) (omega arith) (omega arith))
@@ -179,7 +179,7 @@ least_extension_of ks n by f g takes p q r = record {
 
 floor_none : IsFloor four_fix_query [] 0
 floor_none =
-    let n = numbers Open Open Open Open Open in
+    let n = four_fix_numbers Open Open Open Open Open in
     floor_by [] (λ k i. absurd i) 900 900 0
     (least_extension_of [] 900 (0 ∷ 1 ∷ []) one (0 ∷ 1 ∷ [], refl) (omega arith) (λ _. omega arith) (λ _. omega arith) (λ _. omega arith))
     (least (floor_choice from_of to_of open_legs []) 900 (0 ∷ 1 ∷ []) one (omega arith) (omega arith) (omega arith) (omega arith))
@@ -187,7 +187,7 @@ floor_none =
 
 floor_0 : IsFloor four_fix_query (0 ∷ []) 250
 floor_0 =
-    let n = numbers Open Open Open Open Open in
+    let n = four_fix_numbers Open Open Open Open Open in
     floor_by (0 ∷ []) (λ k i. ⊎_elim (λ f. omega arith) (λ z. absurd z) i) 900 650 250
     (least_extension_of (0 ∷ []) 900 (0 ∷ 1 ∷ []) one (1 ∷ [], refl) (omega arith) (λ _. omega arith) (λ _. omega arith) (λ g. absurd (other_first 0 2 [] (3 ∷ []) (λ f. omega arith) g)))
     (least (floor_choice from_of to_of open_legs (0 ∷ [])) 650 (2 ∷ 3 ∷ []) two (omega arith) (omega arith) (omega arith) (omega arith))
@@ -195,7 +195,7 @@ floor_0 =
 
 floor_2 : IsFloor four_fix_query (2 ∷ []) 250
 floor_2 =
-    let n = numbers Open Open Open Open Open in
+    let n = four_fix_numbers Open Open Open Open Open in
     floor_by (2 ∷ []) (λ k i. ⊎_elim (λ f. omega arith) (λ z. absurd z) i) 1050 800 250
     (least_extension_of (2 ∷ []) 1050 (2 ∷ 3 ∷ []) two (3 ∷ [], refl) (omega arith) (λ g. absurd (other_first 2 0 [] (1 ∷ []) (λ f. omega arith) g)) (λ g. absurd (other_first 2 0 [] (4 ∷ 3 ∷ []) (λ f. omega arith) g)) (λ _. omega arith))
     (least (floor_choice from_of to_of open_legs (2 ∷ [])) 800 (0 ∷ 1 ∷ []) one (omega arith) (omega arith) (omega arith) (omega arith))
@@ -203,7 +203,7 @@ floor_2 =
 
 floor_2_3 : IsFloor four_fix_query (2 ∷ 3 ∷ []) 450
 floor_2_3 =
-    let n = numbers Open Open Open Open Open in
+    let n = four_fix_numbers Open Open Open Open Open in
     floor_by (2 ∷ 3 ∷ []) (λ k i. ⊎_elim (λ f. omega arith) (λ z. ⊎_elim (λ f. omega arith) (λ y. absurd y) z) i) 1050 600 450
     (least_extension_of (2 ∷ 3 ∷ []) 1050 (2 ∷ 3 ∷ []) two ([], refl) (omega arith) (λ g. absurd (other_first 2 0 (3 ∷ []) (1 ∷ []) (λ f. omega arith) g)) (λ g. absurd (other_first 2 0 (3 ∷ []) (4 ∷ 3 ∷ []) (λ f. omega arith) g)) (λ _. omega arith))
     (least (floor_choice from_of to_of open_legs (2 ∷ 3 ∷ [])) 600 (0 ∷ 1 ∷ []) one (omega arith) (omega arith) (omega arith) (omega arith))
@@ -212,7 +212,7 @@ floor_2_3 =
 pub four_fix_worked : FourFixWorked four_fix_rows
 unfolding legs_with
 four_fix_worked =
-    let n = numbers Open Open Open Open Open in
+    let n = four_fix_numbers Open Open Open Open Open in
     let sum : 0 + (leg_at open_legs 0).high + (leg_at open_legs 1).high ≡ 900 = omega arith in
     let lowest : min (min 600 (leg_at open_legs 2).top) (leg_at open_legs 3).top ≡ 370 = omega arith in
     record {
@@ -252,7 +252,7 @@ regret_less_4 p f x y q g takes one' two' difference =
 third_open : IsRouteBetween (legs_with Open Closed Open Closed Open) 0 3 (0 ∷ 4 ∷ 3 ∷ []) → Closed ≡ Open
 third_open f = sym (ap (λ (x : Row). x.standing) (leg_is Open Closed Open Closed Open 3 (omega arith))) ∙ f.chain.leads.1.1.0.is_open
 
--- with legs 1 and 3 closed every route would fly one of them
+-- with legs 1 and 3 closed, each of the three lists has a closed leg
 none_without_1_and_3 : (q : List ℕ) → IsRoute (from_first_to_last (closed (closed four_fix_rows 1) 3)) q → ⊥
 unfolding legs_with
 none_without_1_and_3 =
@@ -264,15 +264,14 @@ none_without_1_and_3 =
 pub four_fix_closed : FourFixClosed four_fix_rows
 unfolding legs_with
 four_fix_closed =
-    let n = numbers Open Open Open Open Closed in
+    let n = four_fix_numbers Open Open Open Open Closed in
     let first = by_one Open Open Open Open Closed refl refl in
     let last = by_two Open Open Open Open Closed refl refl in
     let regret_first = regret_less_4 (0 ∷ 1 ∷ []) first 450 450 (2 ∷ 3 ∷ []) last (omega arith) (omega arith) (omega arith) (omega arith) in
     let regret_last = regret_less_4 (2 ∷ 3 ∷ []) last 600 450 (0 ∷ 1 ∷ []) first (omega arith) (omega arith) (omega arith) (omega arith) in
     record {
       tie_without_leg_4 = regret_last;
-      refused_without_legs_1_and_3 = λ memory h. (h, none_without_1_and_3, refl);
-      refused_with = refl;
+      refused_without_legs_1_and_3 = λ memory h. (inr (refl, h, none_without_1_and_3), refl);
       without_leg_4 = record {
         is_route = first;
         regret = regret_first;

@@ -134,7 +134,7 @@ module _ (a b c d e : Standing) where
         some = omega arith;
       }
 
-  -- a route flies open legs
+  -- the legs of a route are open
   pub second_open : (k j : ℕ) (ks : List ℕ) → j < 5 → IsRouteBetween (legs_with a b c d e) 0 3 (k ∷ j ∷ ks) → (row_at (rows_with a b c d e) j).standing ≡ Open
   second_open k j ks h r = sym (ap (λ (x : Row). x.standing) (leg_is j h)) ∙ r.chain.leads.1.0.is_open
 

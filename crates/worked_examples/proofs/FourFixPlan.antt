@@ -7,7 +7,7 @@ use Rattle.chart.specs.Rows.{leg_of, row_at}
 use Rattle.chart.specs.Regret.{query, IsRoute, IsLeastRegret}
 use Rattle.plan.specs.declared.amendment.Change.TheVariants.{Close}
 use Rattle.plan.specs.Amendments.{changed_leg}
-use Rattle.plan.specs.Ledgers.{grounds, amend_answer, ledger_after}
+use Rattle.plan.specs.Ledgers.{grounds, outcome_on, ledger_after}
 use Rattle.worked_examples.specs.FourFix.{four_fix_rows, legs_of_rows, closed}
 use Rattle.worked_examples.specs.FourFixPlan.{after_first, without_1_and_3, FourFixAmended}
 use Rattle.worked_examples.proofs.FourFixLegs.{legs_with, leg_is}
@@ -27,7 +27,7 @@ unfolding ledger_after grounds leg_at
 without_both = λ i. slice_set (slice_set (legs_of_rows four_fix_rows) 1 (closing 1 (omega arith) i)) 3 (closing 3 (omega arith) i)
 
 pub four_fix_amended : FourFixAmended four_fix_rows
-unfolding amend_answer ledger_after grounds
+unfolding outcome_on ledger_after grounds
 four_fix_amended = record {
   first = refl;
   second = refl;

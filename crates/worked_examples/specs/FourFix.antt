@@ -1,17 +1,17 @@
 -- A chart of four fixes and five legs, and a small lattice, with the answers that were worked out by hand.
-use Rattle.std.specs.Prelude.{◌≡◌, ℕ, List, [], ◌∷◌, map, length, slice_set, Some, ◌≤◌, ◌+◌, Err}
+use Rattle.std.specs.Prelude.{◌≡◌, ℕ, List, [], ◌∷◌, map, length, slice_set, Some, ◌≤◌, ◌+◌}
 use Rattle.chart.specs.declared.row.Row.{Row}
 use Rattle.chart.specs.declared.row.Standing.{Standing}
 use Rattle.chart.specs.declared.row.Standing.TheVariants.{Open, Closed}
 use Rattle.chart.specs.declared.leg.Leg.{Leg}
 use Rattle.chart.specs.declared.interval.Step.{Step}
+use Rattle.chart.specs.Outcomes.{refused}
 use Rattle.chart.specs.Rows.{leg_of, row_at}
 use Rattle.chart.specs.Kinds.{level_rule, quickest_rule}
 use Rattle.chart.specs.Best.{BestTotal}
 use Rattle.chart.specs.Regret.{Query, query, IsRoute, HasRegret, IsLeastRegret}
 use Rattle.chart.specs.Floors.{IsFloor}
-use Rattle.least.specs.declared.refusals.RouteRefusal.TheVariants.{NoRoute}
-use Rattle.least.specs.Answers.{route_number, RouteAnswer}
+use Rattle.least.specs.Answers.{IsRouteOutcome}
 use Rattle.chart.specs.Grid.{grid_legs}
 
 abbrev pub row : (from to low high top : ℕ) → Standing → Row
@@ -58,10 +58,9 @@ pub record FourFixClosed (rows : List Row) : Type 0 where
   pub without_leg_4 : IsLeastRegret (from_first_to_last (closed rows 4)) (0 ∷ 1 ∷ []) 450
   pub tie_without_leg_4 : HasRegret (from_first_to_last (closed rows 4)) (2 ∷ 3 ∷ []) 450
   pub without_legs_1_and_3 : (q : List ℕ) → IsRoute (from_first_to_last (closed (closed rows 1) 3)) q → ⊥
-  pub refused_without_legs_1_and_3 : (memory : List ℕ) → 4 ≤ length memory + 1 → RouteAnswer (from_first_to_last (closed (closed rows 1) 3)) 4 memory (Err NoRoute) memory
-  pub refused_with : route_number NoRoute ≡ 25
+  pub refused_without_legs_1_and_3 : (memory : List ℕ) → 4 ≤ length memory + 1 → IsRouteOutcome (from_first_to_last (closed (closed rows 1) 3)) 4 memory (refused 25) memory
 
--- a lattice of 3 rows and 2 columns has 7 legs, and the leg 2 runs from the fix 1 to the fix 3
+-- the one step of 3 rows and 2 columns has 7 legs, of which leg 2 leads from fix 1 to fix 3
 abbrev pub SmallLatticeWorked : Type 0
 SmallLatticeWorked =
     (top : ℕ) (steps : List Step) →

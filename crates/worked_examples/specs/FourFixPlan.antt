@@ -1,13 +1,12 @@
--- The plan of the four-fix chart from its first fix to its last, amended in turn: what each amendment is answered, by the
+-- The plan of the four-fix chart from its first fix to its last, amended in succession: what each amendment is answered, by the
 -- definitions of ledgers, and which routes are left.
-use Rattle.std.specs.Prelude.{◌≡◌, ℕ, List, [], ◌∷◌, Ok, Err, Result}
+use Rattle.std.specs.Prelude.{◌≡◌, ℕ, List, [], ◌∷◌}
 use Rattle.chart.specs.declared.row.Row.{Row}
+use Rattle.chart.specs.Outcomes.{values, refused}
 use Rattle.chart.specs.Regret.{IsRoute, IsLeastRegret}
 use Rattle.plan.specs.declared.amendment.Change.TheVariants.{Close, Times, Restore}
 use Rattle.plan.specs.declared.amendment.Amendment.{Amendment}
-use Rattle.plan.specs.declared.refusals.AmendRefusal.{AmendRefusal}
-use Rattle.plan.specs.Refusals.{amend_number}
-use Rattle.plan.specs.Ledgers.{Ledger, at_filing, query_of, amend_answer, ledger_after}
+use Rattle.plan.specs.Ledgers.{Ledger, at_filing, query_of, outcome_on, ledger_after}
 use Rattle.worked_examples.specs.FourFix.{legs_of_rows, closed}
 
 -- the ledger at filing
@@ -56,24 +55,16 @@ without_1 rows = ledger_after (legs_of_rows rows) (filed rows) close_1
 abbrev pub without_1_and_3 : List Row → Ledger
 without_1_and_3 rows = ledger_after (legs_of_rows rows) (without_1 rows) close_3
 
--- an answer, with a refusal as its number
-abbrev pub by_number : Result ℕ AmendRefusal → Result ℕ ℕ
-by_number (Ok revision) = Ok revision
-by_number (Err refusal) = Err (amend_number refusal)
-
-abbrev pub answered_by_number : Ledger → Amendment → Result ℕ ℕ
-answered_by_number l a = by_number (amend_answer l a)
-
 -- the four are answered 1, refused with 8, answered 2 and refused with 21, and the plan is then at revision 2;
 -- with leg 4 closed the route is 0, 1, as on the chart with that leg closed; with legs 1 and 3 closed there is none
 pub record FourFixAmended (rows : List Row) : Type 0 where
-  pub first : answered_by_number (filed rows) close_4 ≡ Ok 1
-  pub second : answered_by_number (after_first rows) mistime_0 ≡ Err 8
-  pub third : answered_by_number (after_second rows) time_0 ≡ Ok 2
-  pub fourth : answered_by_number (after_third rows) restore_4 ≡ Err 21
+  pub first : outcome_on (filed rows) close_4 ≡ values (1 ∷ [])
+  pub second : outcome_on (after_first rows) mistime_0 ≡ refused 8
+  pub third : outcome_on (after_second rows) time_0 ≡ values (2 ∷ [])
+  pub fourth : outcome_on (after_third rows) restore_4 ≡ refused 21
   pub revision : (after_fourth rows).revision ≡ 2
   pub legs_without_4 : (after_first rows).legs ≡ legs_of_rows (closed rows 4)
   pub route_without_4 : IsLeastRegret (query_of (after_first rows)) (0 ∷ 1 ∷ []) 450
-  pub closes_1 : answered_by_number (filed rows) close_1 ≡ Ok 1
-  pub closes_3 : answered_by_number (without_1 rows) close_3 ≡ Ok 2
+  pub closes_1 : outcome_on (filed rows) close_1 ≡ values (1 ∷ [])
+  pub closes_3 : outcome_on (without_1 rows) close_3 ≡ values (2 ∷ [])
   pub no_route_without_1_and_3 : (q : List ℕ) → IsRoute (query_of (without_1_and_3 rows)) q → ⊥

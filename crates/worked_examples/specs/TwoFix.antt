@@ -1,4 +1,4 @@
--- A chart with the two fixes AA and BB and no legs: what its file means, and what two files owe
+-- A chart with the two fixes AA and BB and no legs: what its file means, and the faults of two files
 -- that differ from it a little.
 use Rattle.std.specs.Prelude.{ℕ, List, [], ◌∷◌, take}
 use Rattle.chart_format.specs.declared.faults.Layer.TheVariants as layer

@@ -1,11 +1,13 @@
 -- The incumbent, and what a part of the search does to it.
-use Rattle.std.specs.Prelude.{◌≡◌, ℕ, ◌<◌, ◌⊎◌, List, ◌∷◌, ◌++◌, length, Some, None, Option, IfSome}
+use Rattle.std.specs.Prelude.{◌≡◌, ℕ, ◌<◌, Bool, IsTrue, ◌↔◌, ◌⊎◌, List, ◌∷◌, ◌++◌, length, Some, None, Option, IfSome, MatchOption}
 use Rattle.chart.specs.Limits.{max_fixes, max_legs}
 use Rattle.chart.specs.Regret.{Query, query, IsRoute, time, HasRegret, IsPreferred, IsLeastRegret}
-use Rattle.chart.specs.Floors.{IsPrefix, highs}
+use Rattle.chart.specs.Floors.{IsPrefix, highs, IsFloor, NoRouteExtends}
 use Rattle.search.specs.Snapshots.{snapshot_fixes, snapshot_legs}
 use Rattle.search.specs.Walks.{AreFlagsOf, IsWalk}
-use Rattle.pursuit.specs.internal.Leads.{IsPursuit}
+use Rattle.pursuit.specs.Pursuits.{IsBelowRegrets}
+use Rattle.pursuit.specs.Answers.{IsPursuit}
+use Rattle.least.specs.Bounds.{most_regret, ShowsWorse}
 use Rattle.least.specs.declared.branch_and_bound.Incumbent.{Incumbent}
 use Rattle.least.specs.declared.branch_and_bound.BranchAndBound.{BranchAndBound}
 
@@ -61,6 +63,31 @@ IsPrunable t ks incumbent = (q : List ℕ) → IsRoute t q → IsPrefix ks q →
 -- no route that begins with the chain of the search could replace its incumbent
 abbrev pub HasPrunableChain : BranchAndBound → Type 0
 HasPrunableChain s = IsPrunable (searched_query s) s.chain.items s.incumbent
+
+-- the bound x of the chain ks shows that no route that begins with it could replace the incumbent: each is worse, or has more
+-- regret than any route has
+abbrev pub ShowsPrunable : ℕ → List ℕ → Option Incumbent → Type 0
+ShowsPrunable x ks None = most_regret < x
+ShowsPrunable x ks (Some b) = ShowsWorse x ks b.regret b.list.items
+
+-- the bound x of the search's chain shows it
+abbrev pub BoundShows : BranchAndBound → ℕ → Type 0
+BoundShows s x = ShowsPrunable x s.chain.items s.incumbent
+
+-- the floor of the search's chain shows it, or the chain has none: no route begins with it
+abbrev pub FloorShows : BranchAndBound → Type 0
+FloorShows s =
+    NoRouteExtends (searched_query s) s.chain.items
+    ⊎ ((x : ℕ) × IsFloor (searched_query s) s.chain.items x × BoundShows s x)
+
+-- r tells whether a bound of the search's chain shows it, of which no more is known than that no route in the chain has a regret
+-- below it
+abbrev pub TellsByBound : BranchAndBound → Bool → Type 0
+TellsByBound s r = (x : ℕ) × IsBelowRegrets (searched_query s) s.chain.items x × (IsTrue r ↔ BoundShows s x)
+
+-- r tells whether there is a reason to prune the search's chain: a bound where it has a pursuit, and else the floor
+abbrev pub TellsReason : BranchAndBound → Bool → Type 0
+TellsReason s r = MatchOption s.pursuit (IsTrue r ↔ FloorShows s) (λ _. TellsByBound s r)
 
 -- where the search has a pursuit, it is one of its query
 abbrev pub HasValidPursuit : BranchAndBound → Type 0

@@ -7,19 +7,16 @@ use Rattle.chart_format.specs.Reports.{chart_report, Fails}
 use Rattle.chart_format.specs.Checks.{Check}
 use Rattle.chart_format.specs.Faults.{HasPrefix, IsFaultOf}
 use Rattle.reader.specs.declared.cursor.Cursor.{Cursor}
-use Rattle.reader.specs.internal.RecordPlaces.{HaveFixBodies, names_at, legs_at, IsNameIndex}
+use Rattle.reader.specs.Files.{names_at}
+use Rattle.reader.specs.internal.RecordPlaces.{HaveFixBodies, legs_at, IsNameIndex}
 
 -- the bytes of the file from the cursor on
-abbrev pub rest_of : Cursor → List ℕ
-rest_of c = drop c.place c.file.now
-
--- both cursors stand in the same file
-abbrev pub HasSameFile : Cursor → Cursor → Type 0
-HasSameFile was is = is.file ≡ was.file
+abbrev pub rest_of : List ℕ → Cursor → List ℕ
+rest_of file c = drop c.place file
 
 -- the cursor stands in the file or at its end
-abbrev pub IsInside : Cursor → Type 0
-IsInside c = c.place ≤ length c.file.now
+abbrev pub IsInside : List ℕ → Cursor → Type 0
+IsInside file c = c.place ≤ length file
 
 -- the first of these checks that fails is the fault e at the place where the cursor was, and is again
 pub record Refuses (checks : List Check) (e : ChartFault) (was is : ℕ) : Type 0 where

@@ -1,8 +1,9 @@
 -- Names and legs by the places where their records stand in a file.
 use Rattle.std.specs.Prelude.{◌≡◌, ℕ, zero, suc, ◌+◌, ◌*◌, ◌<◌, ◌≤◌, List, [], ◌∷◌, ◌++◌, length, drop, slice_index}
 use Rattle.chart.specs.declared.row.Row.{Row}
-use Rattle.chart_format.specs.Format.{Name, name_place, name_offset, leg_record_length}
-use Rattle.chart_format.specs.Checks.{byte, body, name_in, leg_in}
+use Rattle.chart_format.specs.Format.{name_place, name_offset, leg_record_length}
+use Rattle.chart_format.specs.Checks.{byte, body, leg_in}
+use Rattle.reader.specs.Files.{names_at}
 
 -- the body of a fix's record is complete after its mark at the place p
 abbrev pub HasFixBody : List ℕ → ℕ → Type 0
@@ -13,11 +14,6 @@ HasFixBody file p =
 -- and at each of these places
 abbrev pub HaveFixBodies : List ℕ → List ℕ → Type 0
 HaveFixBodies file starts = (i : ℕ) → i < length starts → HasFixBody file (slice_index starts i)
-
--- the names whose records stand at the places given
-abbrev pub names_at : List ℕ → List ℕ → List Name
-names_at file [] = []
-names_at file (p ∷ ps) = name_in (body (drop p file)) ∷ names_at file ps
 
 -- the legs of the k records from the place p on
 abbrev pub legs_at : List ℕ → ℕ → ℕ → List Row

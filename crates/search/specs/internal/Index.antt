@@ -1,10 +1,10 @@
 -- The legs of a chart in a row, and for each fix the chain of the legs that leave it.
-use Rattle.std.specs.Prelude.{◌≡◌, ℕ, ◌+◌, ◌<◌, ◌≤◌, List, [], length, take, map, Some, None, Option, IfSome, slice_index_or}
+use Rattle.std.specs.Prelude.{◌≡◌, ℕ, ◌+◌, ◌<◌, ◌≤◌, List, length, take, map, None, Option, IfSome, slice_index_or}
 use Rattle.chart.specs.declared.leg.Leg.{Leg}
 use Rattle.chart.specs.Legs.{leg_at}
 use Rattle.chart.specs.Limits.{max_fixes, max_legs}
 use Rattle.search.specs.declared.snapshot.IndexedLeg.{IndexedLeg}
-use Rattle.search.specs.LegsLeaving.{IsFirstLeg, legs_leaving}
+use Rattle.search.specs.LegsLeaving.{IsFirstLeg}
 
 -- the legs of a row
 abbrev pub indexed_legs : List IndexedLeg → List Leg
@@ -21,11 +21,6 @@ next_legs row = map (λ (l : IndexedLeg). l.next) row
 -- j is the number of a leg, or none
 abbrev pub IsLeg : List Leg → Option ℕ → Type 0
 IsLeg legs r = IfSome r (λ j. j < length legs)
-
--- the numbers from j on of the legs that leave the same fix as the leg j, rising
-abbrev pub legs_left_from : List Leg → Option ℕ → List ℕ
-legs_left_from legs None = []
-legs_left_from legs (Some j) = legs_leaving legs (leg_at legs j).from j
 
 -- the row has no more legs than a chart can have, and they leave fixes that a chart can have
 pub record FitsIndex (row : List IndexedLeg) : Type 0 where

@@ -87,6 +87,14 @@ abbrev pub HasRelaxingInvariant : {T : Type 0} → Rule T → Snapshot → List 
 HasRelaxingInvariant rule snapshot label state u j =
     (departure : ℕ) × RelaxingInvariant (search_over rule snapshot departure) label state u j
 
+-- no fix is settled in state' that was not in state
+abbrev pub SettlesNone : List FixState → List FixState → Type 0
+SettlesNone state state' = (x : ℕ) → IsSettled state' x → IsSettled state x
+
+-- of the fixes that were not settled in state, u alone is in state'
+abbrev pub SettlesOnly : ℕ → List FixState → List FixState → Type 0
+SettlesOnly u state state' = (x : ℕ) → (x ≢ u) → IsSettled state' x → IsSettled state x
+
 -- The relaxing of u goes on from its leg i to its leg j: label and state become label' and state'. This holds from
 -- any departure, and no fix is settled meanwhile.
 pub record Advances {T : Type 0} (rule : Rule T) (snapshot : Snapshot) (u i j : ℕ)
@@ -94,13 +102,15 @@ pub record Advances {T : Type 0} (rule : Rule T) (snapshot : Snapshot) (u i j : 
   pub relaxing : (departure : ℕ) → RelaxingInvariant (search_over rule snapshot departure) label state u i →
       RelaxingInvariant (search_over rule snapshot departure) label' state' u j
   pub count : settled_count state' ≡ settled_count state
+  pub settled : SettlesNone state state'
 
--- One more fix is settled, from any departure: label and state become label' and state'.
-pub record Settles {T : Type 0} (rule : Rule T) (snapshot : Snapshot)
+-- The fix u is settled besides those that were, from any departure: label and state become label' and state'.
+pub record Settles {T : Type 0} (rule : Rule T) (snapshot : Snapshot) (u : ℕ)
     (label : List T) (state : List FixState) (label' : List T) (state' : List FixState) : Type 0 where
   pub rest : (departure : ℕ) → SearchInvariant (search_over rule snapshot departure) label state →
       SearchInvariant (search_over rule snapshot departure) label' state'
   pub count : settled_count state' ≡ settled_count state + 1
+  pub settled : SettlesOnly u state state'
 
 -- what bringing the total t to the fix w, which is not settled, makes of labels and states
 pub data IsImproved {T : Type 0} (rule : Rule T) (label : List T) (state : List FixState) (w : ℕ) (t : T)

@@ -1,11 +1,11 @@
-use Rattle.std.proofs.Common.{◌≡◌, ◌+◌, ◌-◌, ◌≤◌, Ok, Err, sym, arith}
+use Rattle.std.proofs.Common.{◌≡◌, ◌+◌, ◌-◌, ◌≤◌, Ok, Err, refl, sym, inl, inr, arith}
 use Rattle.std.proofs.lemmas.Bool.{eqb-true, eqb-false}
 use Rattle.std.proofs.lemmas.Result.{err_from_is_err_and}
 use Rattle.chart.specs.Regret.{query}
 use Rattle.search.specs.Snapshots.{snapshot_legs}
 use Rattle.search.specs.laws.SnapshotLaws.{snapshot_is_chart}
 use Rattle.floor.specs.declared.refusals.FloorRefusal.TheVariants.{NotAChain, NoRoute}
-use Rattle.floor.specs.Answers.{FloorAnswer}
+use Rattle.floor.specs.Answers.{floor_outcome, IsFloorOutcome}
 use Rattle.floor.proofs.RoutesExtending.{no_route_extends, least_extension_small, empty_no_route, some_no_chain}
 use Rattle.floor.proofs.FloorFromTotals.{floor_found, refused}
 use Rattle.floor.proofs.floors.floor_on.Goals as goal
@@ -23,11 +23,12 @@ returns-in_err-walked c =
     elim c.if-is_empty.branch [
       | then-is_empty w ↦
           let is = refused c.from_residual.result p.0 _ c.if-is_empty.unwalked NoRoute c.walk.result p.1 p.2 v n w.unwalked-is in
-          rw is (empty_no_route (snapshot_legs s) (snapshot_is_chart s) ends.from ends.to ks none (eqb-true _ _ (sym w.if-is_empty.ensures)))
+          let empty = empty_no_route (snapshot_legs s) (snapshot_is_chart s) ends.from ends.to ks none (eqb-true _ _ (sym w.if-is_empty.ensures)) in
+          rw is (inr (refl, empty.0, empty.1))
       | else-is_empty w ↦
           let is = refused c.from_residual.result p.0 _ c.if-is_empty.unwalked NotAChain c.walk.result p.1 p.2 v n w.unwalked-is in
           let some = eqb-false _ _ (sym w.if-is_empty.ensures) in
-          rw is (some_no_chain (snapshot_legs s) (snapshot_is_chart s) ends.from ends.to ks none (omega arith))
+          rw is (inl (refl, some_no_chain (snapshot_legs s) (snapshot_is_chart s) ends.from ends.to ks none (omega arith)))
     ]
 
 pub returns-in_err-onward : goal.returns-in_err-onward
@@ -40,7 +41,7 @@ returns-in_err-onward c =
     let v = c.in_err-onward.ensures.value in
     let n = c.in_err-onward.ensures.ok_part in
     let is : c.from_residual-in_err-onward.result ≡ Err NoRoute = cc (p.1, p.2, v, n) in
-    rw is ((w.end, walk.chain), no_route_extends legs c.args.ends.from c.args.ends.to c.args.chain.now w.end w.used walk nothing)
+    rw is (inr (refl, (w.end, walk.chain), no_route_extends legs c.args.ends.from c.args.ends.to c.args.chain.now w.end w.used walk nothing))
 
 pub overflow_add-result : goal.overflow_add-result
 overflow_add-result c =
@@ -52,7 +53,7 @@ overflow_add-result c =
     omega arith
 
 -- where all three calls found something
-found : (c : goal.In_ok-choice_time) → (c.in_ok-choice_time.choice_time ≤ c.in_ok-walked.walked.high + c.in_ok-onward.onward) × FloorAnswer (query (snapshot_legs c.args.snapshot.now) c.args.ends.from c.args.ends.to) c.args.chain.now (Ok (c.in_ok-walked.walked.high + c.in_ok-onward.onward - c.in_ok-choice_time.choice_time))
+found : (c : goal.In_ok-choice_time) → (c.in_ok-choice_time.choice_time ≤ c.in_ok-walked.walked.high + c.in_ok-onward.onward) × IsFloorOutcome (query (snapshot_legs c.args.snapshot.now) c.args.ends.from c.args.ends.to) c.args.chain.now (floor_outcome (Ok (c.in_ok-walked.walked.high + c.in_ok-onward.onward - c.in_ok-choice_time.choice_time)))
 found c =
     let legs = snapshot_legs c.args.snapshot.now in
     let ends = c.args.ends in

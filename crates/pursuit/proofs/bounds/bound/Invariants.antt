@@ -1,4 +1,4 @@
-use Rattle.pursuit.specs.internal.Leads.{IsBelowChainRegrets, query_on}
+use Rattle.pursuit.specs.Answers.{IsBelowChainRegrets, query_on}
 use Rattle.pursuit.proofs.bounds.bound.Given as goal
 
 abbrev pub invariant-loop-b : goal.invariant-loop-b

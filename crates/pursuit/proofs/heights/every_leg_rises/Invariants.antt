@@ -2,7 +2,7 @@ use Rattle.std.proofs.Common.{ℕ, ◌<◌}
 use Rattle.chart.specs.Legs.{leg_at}
 use Rattle.search.specs.Snapshots.{snapshot_legs}
 use Rattle.pursuit.specs.Rivals.{IsRivalLeg}
-use Rattle.pursuit.specs.internal.Leads.{height_at, query_on}
+use Rattle.pursuit.specs.Answers.{height_at, query_on}
 use Rattle.pursuit.proofs.heights.every_leg_rises.Given as goal
 
 abbrev pub invariant-loop-k : goal.invariant-loop-k

@@ -4,7 +4,7 @@ use Rattle.chart.specs.Regret.{query}
 use Rattle.search.specs.Snapshots.{snapshot_legs}
 use Rattle.search.specs.laws.SnapshotLaws.{snapshot_is_chart}
 use Rattle.chart.proofs.RouteEnds.{route_leaves_fix}
-use Rattle.regret.specs.Answers.{RegretAnswer}
+use Rattle.regret.specs.Answers.{regret_outcome, IsRegretOutcome}
 use Rattle.regret.proofs.RegretFromBest.{walked_to, regret_from_best, not_a_route}
 use Rattle.regret.proofs.regrets.regret_on.Goals as goal
 
@@ -18,7 +18,7 @@ returns-in_err-walked c =
     none (route_leaves_fix (snapshot_legs s) (snapshot_is_chart s) ends.from ends.to c.args.list.now is_route) is_route.chain))
 
 -- where both calls found something
-found : (c : goal.In_ok-best) → (c.in_ok-best.best ≤ c.in_ok-walked.walked.high) × RegretAnswer (query (snapshot_legs c.args.snapshot.now) c.args.ends.from c.args.ends.to) c.args.list.now (Ok (c.in_ok-walked.walked.high - c.in_ok-best.best))
+found : (c : goal.In_ok-best) → (c.in_ok-best.best ≤ c.in_ok-walked.walked.high) × IsRegretOutcome (query (snapshot_legs c.args.snapshot.now) c.args.ends.from c.args.ends.to) c.args.list.now (regret_outcome (Ok (c.in_ok-walked.walked.high - c.in_ok-best.best)))
 found c =
     let s = c.args.snapshot.now in
     let ends = c.args.ends in

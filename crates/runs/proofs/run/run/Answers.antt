@@ -1,7 +1,6 @@
 use Rattle.std.proofs.Common.{◌+◌, ◌≤◌, length, refl, arith}
 use Rattle.plan.specs.Plans.{ledger_of}
 use Rattle.runs.proofs.OneOutcome.{runs_have_one_outcome}
-use Rattle.runs.proofs.LedgerKept.{histories_join}
 use Rattle.runs.proofs.OneMoreCall.{no_calls_so_far, one_more_call_at, part_fits, part_long, all_calls_so_far}
 use Rattle.runs.proofs.run.run.Goals as goal
 use Rattle.runs.proofs.run.run.Goals.{After-places-places}
@@ -31,12 +30,6 @@ loop-i-preserved g c =
 
 pub returns-clause-law : goal.returns-clause-law
 returns-clause-law g c = all_calls_so_far g.C.Chart.fixes g.C.Chart.legs c.args.plan.now.chart (ledger_of g.C.Chart.legs c.args.plan.now) c.args.calls.now c.loop-i.i c.args.replies.now c.loop-i.replies c.args.memory.now c.loop-i.memory c.loop-i.used c.loop-i.plan c.loop-i-test.false c.in_ok-check_room.ensures c.loop-i.invariant
-
-pub returns-in_err-check_room-clause-histories_join : goal.returns-in_err-check_room-clause-histories_join
-returns-in_err-check_room-clause-histories_join g c = histories_join
-
-pub returns-clause-histories_join : goal.returns-clause-histories_join
-returns-clause-histories_join g c = histories_join
 
 pub returns-in_err-check_room-clause-one_outcome : goal.returns-in_err-check_room-clause-one_outcome
 returns-in_err-check_room-clause-one_outcome g c = runs_have_one_outcome

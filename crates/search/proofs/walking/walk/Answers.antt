@@ -16,16 +16,16 @@ returns-in_err-leg c =
     let w = c.loop-k.walked in
     rw c.from_residual.ensures (λ known. walk_stuck (snapshot_legs c.args.snapshot.now) c.args.from c.args.list.now c.loop-k.k-index w.end w.used c.loop-k.invariant.walk c.loop-k-test.true c.in_err-leg.ensures)
 
-pub extend-requires-clause-places : goal.extend-requires-clause-places
-extend-requires-clause-places c =
+pub extend-requires : goal.extend-requires
+extend-requires c =
     let s = c.args.snapshot.now in
     let w = c.loop-k.walked in
     let st = c.in_ok-leg.ensures in
     let known = step_is_small_leg (snapshot_legs s) (snapshot_is_chart s) w.end w.used (get_or c.args.list.now c.loop-k.k-index 0) c.in_ok-leg.leg st.0 st.1 in
     (known.to_small, known.number_small)
 
-pub extend-requires-clause-sum : goal.extend-requires-clause-sum
-extend-requires-clause-sum c =
+pub overflow_add-walked : goal.overflow_add-walked
+overflow_add-walked c =
     let s = c.args.snapshot.now in
     let small = high_small (snapshot_legs s) (snapshot_is_chart s) c.args.from (take c.loop-k.k-index c.args.list.now) c.loop-k.walked (omega arith) c.loop-k.invariant in
     omega (arith, c.in_ok-leg.leg.bounded)

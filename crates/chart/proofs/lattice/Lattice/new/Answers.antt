@@ -21,14 +21,20 @@ invariant_of-result c =
       bounded = λ s t h b. (timed s (omega (arith, shaped.steps_fit)) t b).bounded;
     }
 
-pub returns : goal.returns
+pub returns-clause-outcome : goal.returns-clause-outcome
+returns-clause-outcome c = (
+  c.if-not-is_grid_shape.ensures.0 refl,
+  record { level = c.if-top-gt-MAX_LEVEL.false; intervals = c.if-not-are_valid.ensures.0 refl },
+)
+
+pub returns-clause-means_the_grid : goal.returns-clause-means_the_grid
 unfolding lattice_legs
-returns c =
-    let shaped = c.if-not-is_grid_shape.ensures.0 refl in
-    record {
-      means_the_grid = (
-        refl,
-        lattice_gives_grid_back c.args.rows c.args.columns c.args.top c.args.steps.now c.copy_steps.new.all shaped c.if-top-gt-MAX_LEVEL.false (c.if-not-are_valid.ensures.0 refl) c.copy_steps.ensures,
-      );
-      numbers_every_leg_of_the_grid = grid_has_numbers c.args.rows c.args.columns shaped.some_rows;
-    }
+returns-clause-means_the_grid c =
+    let shaped = c.if-not-is_grid_shape.ensures.0 refl in (
+      refl,
+      lattice_gives_grid_back c.args.rows c.args.columns c.args.top c.args.steps.now c.copy_steps.new.all shaped c.if-top-gt-MAX_LEVEL.false (c.if-not-are_valid.ensures.0 refl) c.copy_steps.ensures,
+    )
+
+pub returns-clause-numbers_every_leg_of_the_grid : goal.returns-clause-numbers_every_leg_of_the_grid
+returns-clause-numbers_every_leg_of_the_grid c =
+    grid_has_numbers c.args.rows c.args.columns (c.if-not-is_grid_shape.ensures.0 refl).some_rows

@@ -1,12 +1,8 @@
-use Rattle.floor.proofs.FloorBelowRegret.{floor_is_below_every_regret}
-use Rattle.least.specs.internal.BranchAndBound.{searched_query}
+use Rattle.least.proofs.PrunedChains.{bound_is_sound, floor_is_sound}
 use Rattle.least.proofs.branch_and_bound.BranchAndBound.can_prune.Goals as goal
 
-pub can_prune_by-requires : goal.can_prune_by-requires
-can_prune_by-requires c =
-    let ready = c.requires in
-    c.bound.ensures.below c.args.self.now.chain.items (record { leads = ready.walk.chain.leads; sums = ready.sums; flagged = ready.flagged })
+pub returns-in-Some-clause-sound : goal.returns-in-Some-clause-sound
+returns-in-Some-clause-sound c = bound_is_sound c.args.self.now c.can_prune_by_pursuit.result c.can_prune_by_pursuit.ensures
 
-pub can_prune_by-requires-in-Ok : goal.can_prune_by-requires-in-Ok
-can_prune_by-requires-in-Ok c =
-    rw (← c.as_slice-list.ensures.value) (floor_is_below_every_regret (searched_query c.args.self.now) c.as_slice-list.result.now c.in-Ok.floor c.in-Ok.ensures.1)
+pub returns-in-None-clause-sound : goal.returns-in-None-clause-sound
+returns-in-None-clause-sound c is = floor_is_sound c.args.self.now (c.can_prune_by_floor.ensures.0 is)

@@ -1,15 +1,15 @@
-use Rattle.std.proofs.Common.{rules, arith}
-use Rattle.search.specs.laws.SnapshotLaws.{snapshot_is_chart}
-use Rattle.least.specs.internal.BranchAndBound.{searched_query}
-use Rattle.least.proofs.LexicalOrder.{preferred_told}
-use Rattle.least.proofs.PrunedChains.{prunable_told, prunable_past}
+use Rattle.std.proofs.Common.{IsTrue, ◌↔◌, sym, subst, subst₂}
+use Rattle.chart.specs.Regret.{IsPreferred}
+use Rattle.least.specs.internal.BranchAndBound.{ShowsPrunable}
+use Rattle.least.proofs.LexicalOrder.{preferred_if_told}
+use Rattle.least.proofs.PrunedChains.{preferred_shows}
 use Rattle.least.proofs.branch_and_bound.BranchAndBound.can_prune_by.Goals as goal
 
-pub returns-then-least-gt-MOST_REGRET : goal.returns-then-least-gt-MOST_REGRET
-returns-then-least-gt-MOST_REGRET c told =
-    prunable_past (searched_query c.args.self.now) (snapshot_is_chart c.args.self.now.snapshot.now) c.args.self.now.chain.items c.args.least c.requires (omega arith) c.args.self.now.incumbent
-
-pub returns : goal.returns
-returns c =
-    let t = searched_query c.args.self.now in
-    prunable_told t c.args.self.now.chain.items c.args.least c.requires c.as_ref.result c.args.self.now.incumbent c.as_ref.ensures.value c.is_some_and.result _ c.is_some_and.ensures (λ b post. rw (← c.as_slice-list.ensures.value) (search (rules, preferred_told)))
+pub returns-in-Some : goal.returns-in-Some
+returns-in-Some c =
+    let b = c.in-Some.incumbent in
+    let ks = c.args.self.now.chain.items in
+    let told = preferred_if_told c.rank.result.0 c.rank.result.1.now c.args.least c.as_slice-list.result.now c.lt.result c.lt.ensures in
+    let of_rank = subst₂ (λ y p. IsTrue c.lt.result ↔ IsPreferred y p c.args.least c.as_slice-list.result.now) c.rank.ensures.0 c.rank.ensures.1 told in
+    let of_chain = subst (λ l. IsTrue c.lt.result ↔ IsPreferred b.regret b.list.items c.args.least l) c.as_slice-list.ensures.value of_rank in
+    subst (λ incumbent. IsTrue c.lt.result ↔ ShowsPrunable c.args.least ks incumbent) (sym c.in-Some.is) (preferred_shows b.regret b.list.items c.args.least ks c.lt.result of_chain)

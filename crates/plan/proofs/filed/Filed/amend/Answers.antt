@@ -1,6 +1,7 @@
 use Rattle.std.proofs.Common.{Ok, ap, ◌∙◌, arith}
 use Rattle.std.proofs.lemmas.Result.{err_from_is_err_and}
 use Rattle.plan.specs.Plans.{ledger_of}
+use Rattle.plan.specs.Answers.{amend_outcome}
 use Rattle.plan.proofs.AmendAnswers.{refused_answer, refused_ledger, granted_answer, granted_plan}
 use Rattle.plan.proofs.filed.Filed.amend.Goals as goal
 
@@ -14,7 +15,7 @@ returns-in_err-leg-clause-ledger g c = refused_ledger (ledger_of g.C.Chart.legs 
 
 pub returns-clause-answer : goal.returns-clause-answer
 returns-clause-answer g c =
-    ap Ok (omega (arith, c.set_amended.ensures.revision))
+    ap (λ x. amend_outcome (Ok x)) (omega (arith, c.set_amended.ensures.revision))
     ∙ granted_answer (ledger_of g.C.Chart.legs c.args.self.now) c.args.amendment c.in_ok-leg.ensures.checked.free
 
 pub returns-clause-ledger : goal.returns-clause-ledger

@@ -1,7 +1,8 @@
 use Rattle.std.proofs.Common.{◌≡◌, ap, ◌∙◌, arith}
 use Rattle.chart.specs.declared.leg.Leg.{Leg}
 use Rattle.regret.specs.FlaggedTimes.{flagged_times}
-use Rattle.pursuit.specs.internal.Leads.{height_at, query_on, choice_of}
+use Rattle.pursuit.specs.Answers.{height_at, query_on}
+use Rattle.pursuit.specs.internal.Margins.{choice_of}
 use Rattle.pursuit.proofs.ReachedFixes.{all_taken}
 use Rattle.pursuit.proofs.reaching.Reaching.take_leg.Goals as goal
 

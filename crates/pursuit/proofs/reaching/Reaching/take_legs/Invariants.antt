@@ -1,4 +1,4 @@
-use Rattle.pursuit.specs.internal.Leads.{AreTimesOf}
+use Rattle.pursuit.specs.internal.Margins.{AreTimesOf}
 use Rattle.pursuit.proofs.reaching.Reaching.take_legs.Given as goal
 
 abbrev pub invariant-loop-k : goal.invariant-loop-k

@@ -1,5 +1,6 @@
 use Rattle.chart.specs.Limits.{max_fixes}
-use Rattle.pursuit.specs.internal.Leads.{height_at, query_on, choice_of}
+use Rattle.pursuit.specs.Answers.{height_at, query_on}
+use Rattle.pursuit.specs.internal.Margins.{choice_of}
 use Rattle.pursuit.proofs.ReachedFixes.{all_start}
 use Rattle.pursuit.proofs.reaching.Reaching.times.Goals as goal
 

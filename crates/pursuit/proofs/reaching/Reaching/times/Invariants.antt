@@ -1,4 +1,4 @@
-use Rattle.pursuit.specs.internal.Leads.{AreTimesOf}
+use Rattle.pursuit.specs.internal.Margins.{AreTimesOf}
 use Rattle.pursuit.proofs.reaching.Reaching.times.Given as goal
 
 abbrev pub invariant-loop-u : goal.invariant-loop-u

@@ -5,7 +5,6 @@ use Rattle.reader.proofs.cursor.Cursor.read_fixes.Given as goal
 
 abbrev pub invariant-loop : goal.invariant-loop
 invariant-loop l = record {
-  same_file : l.self.file ≡ l.initial.self.file;
-  after_names : AfterNames l.initial.self.file.now l.self.place l.fixes (legs_in (body l.initial.self.file.now)) l.starts.items;
+  after_names : AfterNames l.file l.self.place l.fixes (legs_in (body l.file)) l.starts.items;
   count : length l.starts.items ≡ l.counter;
 }

@@ -1,5 +1,6 @@
 use Rattle.std.proofs.Common.{◌∙◌, sym, ap, subst, rules}
-use Rattle.search.specs.internal.Index.{legs_left_from, IsLeg}
+use Rattle.search.specs.LegsLeaving.{legs_left_from}
+use Rattle.search.specs.internal.Index.{IsLeg}
 use Rattle.search.specs.Snapshots.{snapshot_legs}
 use Rattle.search.proofs.LegsLeaving.{left_from_unfolds}
 use Rattle.search.proofs.legs_from.LegsFromIterator.next.Goals as goal

@@ -16,7 +16,7 @@ returns-then-ne-clause-advances g c =
     let laws = g.K.Kind.laws c.args.self.now.kind.now in
     let not_open : (c.leg_at-leg.result.standing ≡ Open → ⊥) = search rules in
     let closed = subst (λ (l : Leg). l.standing ≡ Open → ⊥) c.leg_at-leg.ensures not_open in
-    record { relaxing = λ departure relaxing. relaxing_passes_closed laws relaxing closed; count = refl }
+    record { relaxing = λ departure relaxing. relaxing_passes_closed laws relaxing closed; count = refl; settled = λ x d. d }
 
 pub bounds-self-to : goal.bounds-self-to
 bounds-self-to g c = omega (arith, leads_to_fix c.args.self.now.snapshot.now c.requires.leg.0 c.leg_at-leg.ensures, c.requires.relaxing.1.relaxed_up_to.states)
@@ -27,7 +27,7 @@ returns-then-eq-clause-advances g c =
     let state = c.args.self.now.state.now in
     let settled : IsSettled state c.leg_at-leg.result.to = search rules in
     let there = subst (λ (l : Leg). IsSettled state l.to) c.leg_at-leg.ensures settled in
-    record { relaxing = λ departure relaxing. relaxing_passes_settled laws relaxing there; count = refl }
+    record { relaxing = λ departure relaxing. relaxing_passes_settled laws relaxing there; count = refl; settled = λ x d. d }
 
 pub bounds-self-u : goal.bounds-self-u
 bounds-self-u g c = omega (arith, relaxing_small (g.K.Kind.laws c.args.self.now.kind.now) c.requires.relaxing.1, c.requires.relaxing.1.relaxed_up_to.labels)
@@ -60,10 +60,12 @@ returns g c =
     let is_open : leg.standing ≡ Open = search rules in
     let leaves : Leaves (snapshot_legs s) c.args.u c.args.j = record { there = c.requires.leg.0; is_open = sym (ap (λ (l : Leg). l.standing) is) ∙ is_open; from = c.requires.leg.1 } in
     let away = subst (λ (l : Leg). IsSettled state l.to → ⊥) is unsettled in
+    let relaxed = relaxing_improved laws c.requires.relaxing.1 (snapshot_is_chart s) leaves away improved in
     record {
       same = c.improve_label.ensures.same;
       advances = record {
-        relaxing = λ departure relaxing. (relaxing_improved laws relaxing (snapshot_is_chart s) leaves away improved).0;
-        count = (relaxing_improved laws c.requires.relaxing.1 (snapshot_is_chart s) leaves away improved).1;
+        relaxing = λ departure relaxing. (relaxing_improved laws relaxing (snapshot_is_chart s) leaves away improved).relaxing;
+        count = relaxed.count;
+        settled = relaxed.settled;
       };
     }

@@ -32,6 +32,7 @@ loop-j-preserved g c =
         record {
           relaxing = λ departure relaxing. relaxed.relaxing departure (relaxing_goes_on (l.invariant.2.2.relaxing departure relaxing) next.0);
           count = relaxed.count ∙ l.invariant.2.2.count;
+          settled = λ x d. l.invariant.2.2.settled x (relaxed.settled x d);
         },
       ),
     )
@@ -43,4 +44,5 @@ returns-clause-advances g c =
     record {
       relaxing = λ departure relaxing. relaxing_goes_past (l.invariant.2.2.relaxing departure relaxing) none;
       count = l.invariant.2.2.count;
+      settled = l.invariant.2.2.settled;
     }

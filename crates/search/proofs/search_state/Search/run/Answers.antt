@@ -1,34 +1,42 @@
-use Rattle.std.proofs.Common.{ℕ, ◌≢◌, ◌<◌, length, set, sym, refl, subst, subst₂, arith, rules}
+use Rattle.std.proofs.Common.{◌≡◌, ℕ, ◌≢◌, ◌<◌, length, set, sym, refl, ◌∙◌, subst, subst₂, arith, rules}
 use Rattle.std.proofs.lemmas.List.{get_or_default}
 use Rattle.chart.specs.Best.{IsBest}
 use Rattle.search.specs.declared.search_state.FixState.TheVariants.{Reached}
-use Rattle.search.specs.internal.Labels.{state_at}
+use Rattle.search.specs.internal.Labels.{state_at, IsSettled, IsBestReached}
 use Rattle.search.specs.Snapshots.{snapshot_fixes, snapshot_legs}
 use Rattle.search.specs.laws.SnapshotLaws.{snapshot_is_chart}
 use Rattle.search.specs.internal.Invariants.{SearchInvariant, search_over}
-use Rattle.search.proofs.LabelsAreBest.{search_begins, no_route_to_unreached, label_is_best}
+use Rattle.search.proofs.LabelsAreBest.{search_begins, none_settled, no_route_to_unsettled, picked_is_best}
 use Rattle.search.proofs.search_state.Search.run.Goals as goal
 
 pub loop-u-init : goal.loop-u-init
 loop-u-init g c =
     let kind = c.args.self.now.kind.now in
     let s = c.args.self.now.snapshot.now in
-    let q = search_over (g.K.Kind.rule kind) s c.args.ends.from in
-    let begins = search_begins q (g.K.Kind.laws kind) (snapshot_is_chart s) c.requires.ends.0 in
-    (refl, refl, subst₂ (λ l m. SearchInvariant q l (set m c.args.ends.from Reached)) (sym c.requires.unreached.0) (sym c.requires.unreached.1) begins)
+    let from = c.args.ends.from in
+    let to = c.args.ends.to in
+    let q = search_over (g.K.Kind.rule kind) s from in
+    let laws = g.K.Kind.laws kind in
+    let begins = search_begins q laws (snapshot_is_chart s) c.requires.ends.0 in
+    let unsettled = none_settled q laws (snapshot_is_chart s) c.requires.ends.0 to in
+    (refl, refl, subst₂ (λ l m. SearchInvariant q l (set m from Reached) × (IsSettled (set m from Reached) to → ⊥)) (sym c.requires.unreached.0) (sym c.requires.unreached.1) (begins, unsettled))
 
-pub returns-then-eq : goal.returns-then-eq
-returns-then-eq g c =
-    let none = subst (λ s. (w : ℕ) → w < snapshot_fixes s → state_at c.loop-u.self.state.now w ≢ Reached) c.loop-u.invariant.0 c.in_default.ensures in
-    no_route_to_unreached (g.K.Kind.laws c.args.self.now.kind.now) c.loop-u.invariant.2 none c.args.ends.to (search rules)
+pub returns-then-u-destination : goal.returns-then-u-destination
+returns-then-u-destination g c =
+    let kind = c.args.self.now.kind.now in
+    let rule = g.K.Kind.rule kind in
+    let s = c.args.self.now.snapshot.now in
+    let l = c.loop-u.self in
+    let u = c.in-Some.u in
+    let from = c.args.ends.from in
+    let rest = c.loop-u.invariant.2.0 in
+    let is : u ≡ c.args.ends.to = search rules in
+    let pick = subst₂ (λ s k. IsBestReached (g.K.Kind.rule k) l.label.now l.state.now (snapshot_fixes s) u) c.loop-u.invariant.0 c.loop-u.invariant.1 c.in-Some.ensures in
+    let small : u < length l.label.now = omega (arith, s.is_chart.most, pick.small, rest.labels) in
+    let read = get_or_default l.label.now u c.index-self-u.result rule.start small in
+    subst₂ (IsBest rule (snapshot_legs s) from) is (sym read) (picked_is_best (g.K.Kind.laws kind) rest pick (λ e. c.requires.ends.2 (e ∙ is)))
 
 pub returns : goal.returns
 returns g c =
-    let rule = g.K.Kind.rule c.args.self.now.kind.now in
-    let s = c.args.self.now.snapshot.now in
-    let rest = c.loop-u.invariant.2 in
-    let small : c.args.ends.to < length c.loop-u.self.label.now = omega (arith, s.is_chart.most, c.requires.ends.1, rest.labels) in
-    let read = get_or_default c.loop-u.self.label.now c.args.ends.to c.index-self-destination.result rule.start small in
     let none = subst (λ s. (w : ℕ) → w < snapshot_fixes s → state_at c.loop-u.self.state.now w ≢ Reached) c.loop-u.invariant.0 c.in_default.ensures in
-    subst (IsBest rule (snapshot_legs s) c.args.ends.from c.args.ends.to) (sym read)
-    (label_is_best (g.K.Kind.laws c.args.self.now.kind.now) rest none c.args.ends.to (search rules) c.requires.ends.2)
+    no_route_to_unsettled (g.K.Kind.laws c.args.self.now.kind.now) c.loop-u.invariant.2.0 none c.args.ends.to c.loop-u.invariant.2.1

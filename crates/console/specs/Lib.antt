@@ -1,0 +1,5 @@
+pub mod Models
+pub mod Sessions
+pub mod Calls
+pub mod Steps
+pub mod Lines

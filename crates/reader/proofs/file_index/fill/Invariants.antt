@@ -1,5 +1,0 @@
-use Rattle.reader.specs.internal.RecordPlaces.{IsFilled}
-use Rattle.reader.proofs.file_index.fill.Given as goal
-
-abbrev pub invariant-loop-k : goal.invariant-loop-k
-invariant-loop-k l = IsFilled l.file l.base l.k l.initial.rows l.rows

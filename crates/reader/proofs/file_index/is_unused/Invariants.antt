@@ -1,7 +1,0 @@
-use Rattle.std.proofs.Common.{◌≡◌, ℕ, ◌<◌}
-use Rattle.chart_format.specs.Format.{name_at}
-use Rattle.reader.specs.internal.RecordPlaces.{names_at}
-use Rattle.reader.proofs.file_index.is_unused.Given as goal
-
-abbrev pub invariant-loop-at : goal.invariant-loop-at
-invariant-loop-at l = (k : ℕ) → k < l.at-index → name_at (names_at l.file l.starts) k ≡ l.name → ⊥
