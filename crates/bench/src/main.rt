@@ -18,14 +18,17 @@ struct RandomNumbers {
 impl RandomNumbers {
     // The next number, of 16 bits.
     fn draw(&mut self) -> u32 {
-        self.last = self.last.wrapping_mul(1664525).wrapping_add(1013904223);
-        self.last / 65536
+        self.last = self
+            .last
+            .wrapping_mul(1_664_525)
+            .wrapping_add(1_013_904_223);
+        self.last / 65_536
     }
 
     fn interval(&mut self) -> Interval {
         Interval {
             low: 0,
-            high: 1000 + self.draw() % 65536,
+            high: 1000 + self.draw() % 65_536,
         }
     }
 }
@@ -33,11 +36,11 @@ impl RandomNumbers {
 fn fill_steps(steps: &mut [Step]) {
     let mut numbers = RandomNumbers { last: 7 };
     for step in steps.iter_mut() {
-        let back = numbers.interval();
-        let ahead = numbers.interval();
-        let on = numbers.interval();
+        let row_before = numbers.interval();
+        let same_row = numbers.interval();
+        let row_after = numbers.interval();
         *step = Step {
-            turns: [back, ahead, on],
+            turns: [row_before, same_row, row_after],
         };
     }
 }
@@ -51,7 +54,7 @@ fn fill_rows(rows: &mut [Row]) {
             from: from as u16,
             to: to as u16,
             low: 0,
-            high: 1000 + numbers.draw() % 65536,
+            high: 1000 + numbers.draw() % 65_536,
             top: 390,
             standing: Standing::Open,
         };

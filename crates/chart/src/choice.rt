@@ -1,5 +1,5 @@
 // Choices of times: in each, the time of a leg lies between its low and its high.
-ghost use Rattle.std.specs.Prelude.{◌≡◌, ℕ, ◌≤◌};
+ghost use Rattle.std.specs.Prelude.{◌≡◌};
 ghost use Rattle.chart.specs.declared.leg.Leg.{Leg};
 ghost use Rattle.chart.specs.Kinds.{Times, IsBounded, high_times, low_times};
 ghost use Rattle.chart.specs.laws.Kinds.{high_bounded, low_bounded};

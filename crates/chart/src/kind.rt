@@ -1,7 +1,8 @@
 // Kinds of totals, and the three kinds: seconds under a choice of times, high-time seconds with the
 // number of legs, and level.
-ghost use Rattle.std.specs.Prelude.{◌≡◌, ℕ};
-ghost use Rattle.chart.specs.Kinds.{Rule, Laws, HasFewLegs, TellsBetter, Compact, seconds_rule, quickest_rule, level_rule};
+ghost use Rattle.std.specs.Prelude.{◌≡◌};
+ghost use Rattle.chart.specs.Kinds.{Rule, Laws, HasFewLegs, TellsBetter, Compact, seconds_rule};
+ghost use Rattle.chart.specs.Kinds.{quickest_rule, level_rule};
 ghost use Rattle.chart.specs.laws.Kinds.{seconds_laws, quickest_laws, level_laws};
 
 use super::choice::Choice;

@@ -1,6 +1,6 @@
 // A leg. Its times and its level are within their limits in every value that exists. It has the
 // fields of a row once more, so that what is said of legs reads `leg.from`, and not `leg.row.from`.
-ghost use Rattle.std.specs.Prelude.{◌≡◌, ◌≤◌, ◌≢◌};
+ghost use Rattle.std.specs.Prelude.{◌≤◌, ◌≢◌};
 ghost use Rattle.chart.specs.Limits.{max_seconds, max_level};
 
 use super::row::Standing;

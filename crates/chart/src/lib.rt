@@ -7,15 +7,15 @@ ghost use Rattle.chart.specs.declared.leg.Leg.{Leg};
 ghost use Rattle.chart.specs.Legs.{leg_get, IsChart};
 ghost use Rattle.chart.specs.Routes.{RoutesAreShort};
 
-pub mod choice;
-pub mod interval;
-pub mod kind;
-pub mod lattice;
-pub mod leg;
+mod choice;
+mod interval;
+mod kind;
+mod lattice;
+mod leg;
 pub mod limits;
-pub mod refusals;
-pub mod row;
-pub mod table;
+mod refusals;
+mod row;
+mod table;
 
 pub use choice::{Choice, Highs, Lows};
 pub use interval::{Interval, Step};

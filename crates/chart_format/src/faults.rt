@@ -11,11 +11,14 @@ use chart::{RowRefusal, TableRefusal};
 use std::error::Error;
 use std::fmt;
 
-/// The layer that found a fault: the bytes of a record, the record, or the chart that the records make.
+/// The layer that found a fault.
 #[derive(Clone, Copy, Debug, PartialEq, Eq)]
 pub enum Layer {
+    /// The bytes of a record.
     Bytes,
+    /// A record.
     Record,
+    /// The chart that the records make.
     Chart,
 }
 
@@ -35,8 +38,11 @@ impl fmt::Display for Layer {
 /// that of the mark of the record that has the fault, or of the first byte after the end record (fault 9).
 #[derive(Clone, Copy, Debug, PartialEq, Eq)]
 pub struct Report {
+    /// The number of the fault.
     pub number: u8,
+    /// The layer that found it.
     pub layer: Layer,
+    /// Its place.
     pub place: usize,
 }
 

@@ -1,9 +1,10 @@
 // The bytes of a file from the mark of a record on, and the record that they begin with.
-ghost use Rattle.std.specs.Prelude.{◌≡◌, ◌+◌, ◌<◌, ◌≤◌, ◌++◌, ◌↔◌, IsTrue, length, take, drop, MatchResult};
+ghost use Rattle.std.specs.Prelude.{◌≡◌, ◌+◌, ◌<◌, ◌≤◌, ◌↔◌, IsTrue, length, take, drop, MatchResult};
 ghost use Rattle.chart_format.specs.Format.{IsNameByte, IsName, mark_length};
 ghost use Rattle.chart_format.specs.Reports.{bytes_report, record_report, chart_report, Fails};
 ghost use Rattle.chart_format.specs.Checks.{Pass, HasMark, mark_checks, kind_checks, body_checks};
-ghost use Rattle.chart_format.specs.Checks.{chart_body_checks, fix_body_checks, leg_body_checks, fixes_in, legs_in, leg_in};
+ghost use Rattle.chart_format.specs.Checks.{chart_body_checks, fix_body_checks, leg_body_checks};
+ghost use Rattle.chart_format.specs.Checks.{fixes_in, legs_in, leg_in};
 ghost use Rattle.chart_format.specs.Bodies.{IsBody, Says};
 
 use super::faults::{BytesFault, ChartFault, RecordFault};
@@ -32,11 +33,12 @@ fn is_name(name: &[u8]) -> bool
     (MIN_NAME..=MAX_NAME).contains(&name.len()) && name.iter().all(|b| is_name_byte(*b))
 }
 
-/// Bytes of a record with all that follows it. `place` is that of the record's mark in the file, in bytes from its beginning; a
-/// fault of the record is told at that place.
+/// Bytes of a record with all that follows it.
 #[derive(Clone, Copy, Debug, PartialEq, Eq)]
 pub struct Input<'a> {
+    /// The bytes, to the end of the file.
     pub bytes: &'a [u8],
+    /// The place of the record's mark in the file, in bytes from its beginning. A fault of the record is told there.
     pub place: usize,
 }
 

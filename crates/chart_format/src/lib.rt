@@ -1,9 +1,9 @@
 // The records of a chart file: marks, bodies and faults, and what a whole file means or which fault it has.
 #![tactic(auto)]
 
-pub mod faults;
-pub mod input;
-pub mod record;
+mod faults;
+mod input;
+mod record;
 pub mod sizes;
 
 pub use faults::{BytesFault, ChartFault, Fault, Layer, RecordFault, Report};

@@ -13,9 +13,6 @@ pub const LEG_BODY: usize = 12;
 /// The bytes of the number that a fix record's body begins with, the length of its name.
 pub const LENGTH_BYTES: usize = 1;
 
-/// The bytes of a chart's record: its mark and its body.
-pub const CHART_RECORD: usize = MARK_BYTES + CHART_BODY;
-
 /// The bytes of a leg's record: its mark and its body.
 pub const LEG_RECORD: usize = MARK_BYTES + LEG_BODY;
 

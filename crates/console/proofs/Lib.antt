@@ -1,5 +1,5 @@
 pub mod OneCallReplied
-pub mod CallsAnswered
 pub mod PlansStepped
 pub mod ChartsTaken
 pub mod NothingChanged
+pub mod LinesTaken

@@ -1,5 +1,5 @@
 -- The calls of plans that commands ask, and the answers that tell what is replied to them.
-use Rattle.std.specs.Prelude.{◌≡◌, ℕ, List, take, unwrap_or, ⊤, Ok, Err, Result}
+use Rattle.std.specs.Prelude.{◌≡◌, ℕ, min, List, take, unwrap_or, ⊤, Ok, Err, Result}
 use Rattle.runs.specs.declared.call.Call.{Call}
 use Rattle.runs.specs.declared.call.Call.TheVariants as call
 use Rattle.runs.specs.declared.reply.Reply.{Reply}
@@ -8,27 +8,19 @@ use Rattle.protocol.specs.declared.command.PlanCall.{PlanCall}
 use Rattle.protocol.specs.declared.command.PlanCall.TheVariants as asked
 use Rattle.protocol.specs.declared.reply_line.Answer.{Answer}
 use Rattle.protocol.specs.declared.reply_line.Answer.TheVariants as answer
-use Rattle.protocol.specs.declared.rejection.AnyRefusal.{AnyRefusal}
 use Rattle.protocol.specs.declared.rejection.AnyRefusal.TheVariants as refusal
 use Rattle.protocol.specs.declared.rejection.Rejection.{Rejection}
 use Rattle.protocol.specs.declared.rejection.Rejection.TheVariants.{Refused, WrongState}
-use Rattle.protocol.specs.declared.rejection.CommandError.{CommandError}
-use Rattle.protocol.specs.declared.rejection.CommandError.TheVariants.{Rejected, NoMemory}
 
--- a command is rejected, out of turn, or refused
-abbrev pub IsRejected : Rejection → Result Answer CommandError → Type 0
-IsRejected why result = result ≡ Err (Rejected why)
+-- a command is out of turn
+abbrev pub IsOutOfTurn : Result Answer Rejection → Type 0
+IsOutOfTurn result = result ≡ Err WrongState
 
-abbrev pub IsOutOfTurn : Result Answer CommandError → Type 0
-IsOutOfTurn result = IsRejected WrongState result
-
-abbrev pub IsRefused : AnyRefusal → Result Answer CommandError → Type 0
-IsRefused why result = IsRejected (Refused why) result
-
--- the call of a filed plan that a command asks, with the same values; a route takes `most` places where the command says no number
+-- The call of a filed plan that a command asks, with the same values. A route takes the places that the command says, and `most` where it
+-- says no number or a larger one: no route has more than `most` legs, so more places change no answer.
 abbrev pub IsCallOf : PlanCall → (most : ℕ) → Call → Type 0
 IsCallOf (asked.Amend amendment) most (call.Amend given) = given ≡ amendment
-IsCallOf (asked.Route places) most (call.Route given) = given ≡ unwrap_or places most
+IsCallOf (asked.Route places) most (call.Route given) = given ≡ min (unwrap_or places most) most
 IsCallOf (asked.Regret list) most (call.Regret given) = given.now ≡ list.items
 IsCallOf (asked.Floor chain) most (call.Floor given) = given.now ≡ chain.items
 IsCallOf asked.Quickest most call.Quickest = ⊤
@@ -36,25 +28,19 @@ IsCallOf asked.Level most call.Level = ⊤
 IsCallOf asked.Status most call.Status = ⊤
 IsCallOf _ _ _ = ⊥
 
--- the answer is a route with this regret and these legs, unless there is no memory for it
-abbrev pub TellsRoute : ℕ → List ℕ → Result Answer CommandError → Type 0
-TellsRoute regret legs (Ok (answer.Route told list)) = (told ≡ regret) × (list.items ≡ legs)
-TellsRoute regret legs (Err (NoMemory _)) = ⊤
-TellsRoute _ _ _ = ⊥
-
--- A command that asked a call is answered what the plan replied, with the values or the refusal of the reply. The legs of a route are
+-- What a command that asked a call is answered: what the plan replied, with the values or the refusal of the reply. The legs of a route are
 -- those that the reply counts, from the memory of the call.
-abbrev pub TellsReply : Reply → List ℕ → Result Answer CommandError → Type 0
-TellsReply (reply.Amend (Ok revision)) memory result = result ≡ Ok (answer.Amend revision)
-TellsReply (reply.Amend (Err why)) memory result = IsRefused (refusal.Amend why) result
-TellsReply (reply.Route (Ok found)) memory result = TellsRoute found.regret (take found.legs memory) result
-TellsReply (reply.Route (Err why)) memory result = IsRefused (refusal.Route why) result
-TellsReply (reply.Regret (Ok seconds)) memory result = result ≡ Ok (answer.Regret seconds)
-TellsReply (reply.Regret (Err why)) memory result = IsRefused (refusal.Regret why) result
-TellsReply (reply.Floor (Ok seconds)) memory result = result ≡ Ok (answer.Floor seconds)
-TellsReply (reply.Floor (Err why)) memory result = IsRefused (refusal.Floor why) result
-TellsReply (reply.Quickest (Ok total)) memory result = result ≡ Ok (answer.Quickest total)
-TellsReply (reply.Quickest (Err why)) memory result = IsRefused (refusal.Best why) result
-TellsReply (reply.Level (Ok level)) memory result = result ≡ Ok (answer.Level level)
-TellsReply (reply.Level (Err why)) memory result = IsRefused (refusal.Best why) result
-TellsReply (reply.Status status) memory result = result ≡ Ok (answer.Status status)
+abbrev pub answer_of : Reply → List ℕ → Result Answer Rejection
+answer_of (reply.Amend (Ok revision)) memory = Ok (answer.Amend revision)
+answer_of (reply.Amend (Err why)) memory = Err (Refused (refusal.Amend why))
+answer_of (reply.Route (Ok found)) memory = Ok (answer.Route found.regret (record { items = take found.legs memory }))
+answer_of (reply.Route (Err why)) memory = Err (Refused (refusal.Route why))
+answer_of (reply.Regret (Ok seconds)) memory = Ok (answer.Regret seconds)
+answer_of (reply.Regret (Err why)) memory = Err (Refused (refusal.Regret why))
+answer_of (reply.Floor (Ok seconds)) memory = Ok (answer.Floor seconds)
+answer_of (reply.Floor (Err why)) memory = Err (Refused (refusal.Floor why))
+answer_of (reply.Quickest (Ok total)) memory = Ok (answer.Quickest total)
+answer_of (reply.Quickest (Err why)) memory = Err (Refused (refusal.Best why))
+answer_of (reply.Level (Ok level)) memory = Ok (answer.Level level)
+answer_of (reply.Level (Err why)) memory = Err (Refused (refusal.Best why))
+answer_of (reply.Status status) memory = Ok (answer.Status status)

@@ -3,3 +3,4 @@ pub mod Sessions
 pub mod Calls
 pub mod Steps
 pub mod Lines
+pub mod Scripts

@@ -33,6 +33,7 @@ pub record SessionModel : Type 0 where
 abbrev pub last_plan : ℕ
 last_plan = 9
 
+-- the number of a plan
 pub record IsPlanNumber (number : ℕ) : Type 0 where
   pub first : 1 ≤ number
   pub last : number ≤ last_plan

@@ -46,4 +46,4 @@ plan_models plans = map plan_model plans
 
 -- and the session
 abbrev pub session_of : Session → SessionModel
-session_of session = record { current = current_if_any session.current_chart; plans = plan_models session.plans.items }
+session_of session = record { current = current_if_any session.current_chart; plans = plan_models session.plans }

@@ -1,14 +1,25 @@
 // Where paths lead: to the files below a folder, or to those that the program carries.
+ghost use Rattle.std.specs.Prelude.{◌≡◌, ⊤, false, IfOk};
+ghost use Rattle.console.specs.Sessions.{bytes_of};
+ghost use Rattle.console.specs.Lines.{Fetches, Stores};
+
 use std::alloc::AllocError;
 use std::fs;
 
-/// Where the paths of chart files and of pictures lead.
+/// Where the paths of chart files and of pictures lead. `fetches` says what is fetched for a path, and `stores` what storing comes to; of
+/// files on a disk neither says anything, since no contract can.
 pub trait Files: Drop {
+    ghost fetches: { Self → Fetches };
+
+    ghost stores: { Self → Stores };
+
     /// The bytes of the file at a path; none where it can't be read. An error is want of memory.
-    fn fetch(&self, rt: &HostRuntime, path: &str) -> Result<Option<Vec<u8>>, AllocError>;
+    fn fetch(&self, rt: &HostRuntime, path: &str) -> Result<Option<Vec<u8>>, AllocError>
+        ensures { IfOk result (λ file. fetches self.now path.now (bytes_of file)) };
 
     /// Stores the bytes as the file at a path, in place of one that is there; whether this could be done.
-    fn store(&self, rt: &HostRuntime, path: &str, bytes: &[u8]) -> bool;
+    fn store(&self, rt: &HostRuntime, path: &str, bytes: &[u8]) -> bool
+        ensures { stores self.now path.now bytes.now result };
 }
 
 /// Paths lead to the files below the working folder.
@@ -16,6 +27,10 @@ pub trait Files: Drop {
 pub struct FolderFiles;
 
 impl Files for FolderFiles {
+    ghost fetches = { λ _ _ _. ⊤ };
+
+    ghost stores = { λ _ _ _ _. ⊤ };
+
     fn fetch(&self, rt: &HostRuntime, path: &str) -> Result<Option<Vec<u8>>, AllocError> {
         Ok(fs::read(rt, path).ok())
     }
@@ -55,6 +70,10 @@ fn built_in_file(path: &str) -> Option<&'static [u8]> {
 pub struct BuiltInFiles;
 
 impl Files for BuiltInFiles {
+    ghost fetches = { λ _ _ _. ⊤ };
+
+    ghost stores = { λ _ _ _ stored. stored ≡ false };
+
     fn fetch(&self, rt: &HostRuntime, path: &str) -> Result<Option<Vec<u8>>, AllocError> {
         built_in_file(path)
             .map(|bytes| Vec::from_slice(rt.alloc(), bytes))

@@ -1,15 +1,16 @@
 // The chart that plans are drafted on, and the names of its fixes if it is a file's.
-ghost use Rattle.std.specs.Prelude.{◌≡◌, length, IfOk, MatchResult};
-ghost use Rattle.chart.specs.Limits.{max_legs};
+ghost use Rattle.std.specs.Prelude.{MatchResult};
 ghost use Rattle.console.specs.Sessions.{current_model};
-ghost use Rattle.console.specs.Steps.{IsChartOfFile, IsOwedToFile, IsChartOfLattice, IsOwedToLattice, AreCountsOf, IsNameOn};
+ghost use Rattle.console.specs.Steps.{IsChartOfFile, IsOwedToFile, IsChartOfLattice, IsOwedToLattice};
+ghost use Rattle.console.specs.Steps.{AreCountsOf, IsNameOn};
 
+use arrayvec::ArrayString;
 use chart::limits::MAX_LEGS;
 use chart::{Chart, Lattice, Row, Standing, Table};
-use protocol::{Answer, AnyRefusal, CommandError, LatticeRequest, Rejection};
+use protocol::{Answer, AnyRefusal, LatticeRequest, Rejection};
 use reader::{Counts, FileIndex};
 use search::Snapshot;
-use std::alloc::{AllocError, Global};
+use std::str;
 
 // The chart that plans are drafted on: a copy of it, and the index of its file if it has one. A plan is drafted on a further copy: a
 // table borrows its rows, and a plan is to outlive the file that they came from.
@@ -19,34 +20,26 @@ pub(crate) struct CurrentChart {
     pub(crate) index: Option<FileIndex>,
 }
 
-// Rows for the legs of any file.
-fn blank_rows(alloc: Global) -> Result<Vec<Row>, AllocError>
-    ensures { IfOk result (λ rows. length rows.items ≡ max_legs) }
-{
-    let blank = Row {
-        from: 0,
-        to: 0,
-        low: 0,
-        high: 0,
-        top: 0,
-        standing: Standing::Closed,
-    };
-    vec![in alloc; blank; MAX_LEGS]
-}
+// What stands in a place for a row that nothing was read into.
+const BLANK: Row = Row {
+    from: 0,
+    to: 0,
+    low: 0,
+    high: 0,
+    top: 0,
+    standing: Standing::Closed,
+};
 
 impl CurrentChart {
     // The chart of a file, unless it has a fault.
-    pub(crate) fn of_file<'a>(
-        alloc: Global,
-        file: Vec<u8>,
-    ) -> Result<CurrentChart, CommandError<'a>>
+    pub(crate) fn of_file<'a>(file: Vec<u8>) -> Result<CurrentChart, Rejection<'a>>
         ensures { MatchResult result
             (λ current. IsChartOfFile file.items (current_model current))
             (IsOwedToFile file.items) }
     {
-        let mut rows = blank_rows(alloc)?;
-        let index = FileIndex::read(file, rows.as_mut_slice())?;
-        let mut table = Table::new(&rows.as_slice()[..index.counts().legs as usize]);
+        let mut rows = [BLANK; MAX_LEGS];
+        let index = FileIndex::read(file, &mut rows)?;
+        let mut table = Table::new(&rows[..index.counts().legs as usize]);
         index.take_legs(&mut table).unwrap();
         Ok(CurrentChart {
             chart: Snapshot::of(&table),
@@ -55,7 +48,7 @@ impl CurrentChart {
     }
 
     // The lattice that is asked for, unless it is refused.
-    pub(crate) fn of_lattice<'a>(request: &LatticeRequest) -> Result<CurrentChart, CommandError<'a>>
+    pub(crate) fn of_lattice<'a>(request: &LatticeRequest) -> Result<CurrentChart, Rejection<'a>>
         ensures { MatchResult result
             (λ current. IsChartOfLattice request.now (current_model current))
             (IsOwedToLattice request.now) }
@@ -80,15 +73,17 @@ impl CurrentChart {
     }
 
     // The name of a fix, which only a file has.
-    pub(crate) fn name<'a>(&self, alloc: Global, fix: u16) -> Result<Answer, CommandError<'a>>
+    pub(crate) fn name<'a>(&self, fix: u16) -> Result<Answer, Rejection<'a>>
         ensures { IsNameOn (current_model self.now).names fix result }
     {
         let Some(index) = &self.index else {
-            return Err(Rejection::WrongState.into());
+            return Err(Rejection::WrongState);
         };
         let name = index.name(fix).map_err(AnyRefusal::Name)?;
+        // A name is of letters and digits, and fits.
+        let text = str::from_utf8(name.text).unwrap();
         Ok(Answer::Name {
-            text: String::from_utf8_lossy(alloc, name.text)?,
+            text: ArrayString::from(text).unwrap(),
             place: name.place,
         })
     }

@@ -226,7 +226,7 @@ impl fmt::Display for Summary {
 /// Runs the demo: prints each command of its script with its reply, and at the end what was done. An error is one of output or of memory.
 pub fn show_demo(rt: &HostRuntime) -> anyhow::Result<()> {
     let alloc = rt.alloc();
-    let mut session = Session::new(alloc)?;
+    let mut session = Session::new(alloc);
     let mut summary = Summary::new(alloc, 1, 2);
     for text in SCRIPT.lines() {
         println!(rt; "> {text}")?;

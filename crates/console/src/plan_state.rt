@@ -1,16 +1,21 @@
 // Plans by number, each in its state, and the calls of those that are filed.
-ghost use Rattle.std.specs.Prelude.{◌≡◌, ◌≤◌, length, MatchResult};
+ghost use Rattle.std.specs.Prelude.{◌≡◌, ◌≤◌, length};
+ghost use Rattle.chart.specs.Limits.{max_fixes};
 ghost use Rattle.search.specs.Snapshots.{snapshot_fixes, snapshot_legs};
 ghost use Rattle.plan.specs.Plans.{chart_of, ledger_of};
 ghost use Rattle.runs.specs.Histories.{call_places, ledger_after_call};
 ghost use Rattle.runs.specs.RepliesTo.{IsReplyTo};
 ghost use Rattle.protocol.specs.declared.reply_line.Answer.TheVariants as answer;
-ghost use Rattle.console.specs.declared.plan_state.PlanState.TheVariants as state;
+ghost use Rattle.console.specs.declared.plan_state.PlanState.TheVariants.{Vacant};
+ghost use Rattle.console.specs.Models.{filed};
 ghost use Rattle.console.specs.Sessions.{chart_model, current_if_any, plan_model};
-ghost use Rattle.console.specs.Calls.{IsOutOfTurn, IsCallOf, TellsReply};
-ghost use Rattle.console.specs.Steps.{Becomes, drafted_from, filed_from, closed_from, IsEndsStep, IsFiledStep, IsCallStep, IsPlanStep, IsPictureOf};
+ghost use Rattle.console.specs.Calls.{IsOutOfTurn, IsCallOf, answer_of};
+ghost use Rattle.console.specs.Steps.{Becomes, drafted_from, filed_from, closed_from, IsEndsStep};
+ghost use Rattle.console.specs.Steps.{AnswersCall, IsCallStep, IsPlanStep, IsPictureOf};
 
 use super::current_chart::CurrentChart;
+use arrayvec::ArrayVec;
+use chart::limits::MAX_FIXES;
 use chart::{Ends, most_legs};
 use picture::{Drawing, svg_of};
 use plan::{BestRefusal, Closed, Draft, Filed};
@@ -22,14 +27,15 @@ use std::alloc::{AllocError, Global};
 use std::default::Default;
 use std::mem;
 
-// The call as a run takes it. A route takes `most` places where it says no number.
+// The call as a run takes it, on a plan whose routes have `most` legs at most.
 fn as_call(call: &PlanCall, most: u16) -> Call<'_>
-    ensures { IsCallOf call.now most result }
+    ensures asked { IsCallOf call.now most result }
+    ensures places { call_places result ≤ most }
 {
     match call {
         PlanCall::Amend(amendment) => Call::Amend(*amendment),
         PlanCall::Route { places } => Call::Route {
-            places: places.unwrap_or(most) as usize,
+            places: places.unwrap_or(most).min(most) as usize,
         },
         PlanCall::Regret(list) => Call::Regret(list.as_slice()),
         PlanCall::Floor(chain) => Call::Floor(chain.as_slice()),
@@ -40,8 +46,9 @@ fn as_call(call: &PlanCall, most: u16) -> Call<'_>
 }
 
 // What the reply of a run answers, with the legs of a route from the memory.
-fn answer_of<'a>(alloc: Global, reply: Reply, memory: &[u16]) -> Result<Answer, CommandError<'a>>
-    ensures { TellsReply reply memory.now result }
+fn answer_of<'a>(reply: Reply, memory: &[u16]) -> Result<Answer, Rejection<'a>>
+    requires { length memory.now ≤ max_fixes }
+    ensures { result ≡ answer_of reply memory.now }
 {
     Ok(match reply {
         Reply::Amend(answer) => Answer::Amend {
@@ -52,7 +59,7 @@ fn answer_of<'a>(alloc: Global, reply: Reply, memory: &[u16]) -> Result<Answer, 
             let legs = memory.get(..found.legs as usize).unwrap_or(memory);
             Answer::Route {
                 regret: found.regret,
-                legs: Vec::from_slice(alloc, legs)?,
+                legs: ArrayVec::try_from(legs).unwrap(),
             }
         }
         Reply::Regret(answer) => Answer::Regret(answer.map_err(AnyRefusal::Regret)?),
@@ -78,43 +85,28 @@ fn reply_to(plan: &mut Filed<Snapshot>, call: Call<'_>, memory: &mut [u16]) -> R
     replies[0]
 }
 
-// So many places of memory. An error is want of memory, which there is for no places.
-fn blank_places(alloc: Global, places: usize) -> Result<Vec<u16>, AllocError>
-    ensures { MatchResult result (λ memory. length memory.items ≡ places) (λ _. 1 ≤ places) }
+// Makes one call of a filed plan, which is lent as many places of memory as it takes.
+fn make_call<'a>(plan: &mut Filed<Snapshot>, call: &PlanCall) -> Result<Answer, Rejection<'a>>
+    ensures { AnswersCall (chart_model (chart_of plan.old)) (ledger_of snapshot_legs plan.old) call.now result
+        (filed (chart_model (chart_of plan.new)) (ledger_of snapshot_legs plan.new)) }
 {
-    if places == 0 {
-        return Ok(Vec::new(alloc));
-    }
-    vec![in alloc; 0u16; places]
+    let call = as_call(call, most_legs(plan));
+    let mut memory = [0; MAX_FIXES];
+    let lent = &mut memory[..call.places()];
+    let reply = reply_to(plan, call, lent);
+    answer_of(reply, lent)
 }
 
 // A drawing of the chart of a filed plan, with its route of least regret if it has one.
 fn draw(alloc: Global, plan: &Filed<Snapshot>) -> Result<String, AllocError> {
-    let mut memory = vec![in alloc; 0u16; most_legs(plan) as usize]?;
-    let legs = plan
-        .route(memory.as_mut_slice())
-        .map_or(0, |found| found.legs);
+    let mut memory = [0; MAX_FIXES];
+    let legs = plan.route(&mut memory).map_or(0, |found| found.legs);
     let drawing = Drawing {
         ends: plan.status().ends,
-        route: memory.as_slice().get(..legs as usize).unwrap_or(&[]),
+        route: memory.get(..legs as usize).unwrap_or(&[]),
         names: &[],
     };
     svg_of(alloc, plan, &drawing)
-}
-
-// Makes one call of a filed plan.
-fn make_call<'a>(
-    alloc: Global,
-    plan: &mut Filed<Snapshot>,
-    call: &PlanCall,
-) -> Result<Answer, CommandError<'a>>
-    ensures { IsFiledStep (chart_model (chart_of plan.old)) (ledger_of snapshot_legs plan.old) call.now result
-        (plan_model (state.Filed plan.new)) }
-{
-    let call = as_call(call, most_legs(plan));
-    let mut memory = blank_places(alloc, call.places())?;
-    let reply = reply_to(plan, call, memory.as_mut_slice());
-    answer_of(alloc, reply, memory.as_slice())
 }
 
 // What is known of the plan of one number.
@@ -127,6 +119,8 @@ pub(crate) enum PlanState {
 }
 
 impl Default for PlanState {
+    ghost is_default = { λ plan. plan ≡ Vacant };
+
     fn default() -> PlanState {
         PlanState::Vacant
     }
@@ -136,11 +130,10 @@ impl PlanState {
     // Runs a command of the plan, which has this number.
     pub(crate) fn run<'a>(
         &mut self,
-        alloc: Global,
         plan: u16,
         command: &PlanCommand,
         current_chart: &Option<CurrentChart>,
-    ) -> Result<Answer, CommandError<'a>>
+    ) -> Result<Answer, Rejection<'a>>
         ensures { IsPlanStep (current_if_any current_chart.now) plan command.now
             (plan_model self.old) result (plan_model self.new) }
     {
@@ -148,7 +141,7 @@ impl PlanState {
             PlanCommand::Draft => self.draft(plan, current_chart),
             PlanCommand::Ends(ends) => self.ends(*ends),
             PlanCommand::File => self.file(),
-            PlanCommand::Call(call) => self.call(alloc, call),
+            PlanCommand::Call(call) => self.call(call),
             PlanCommand::Close => self.close(),
         }
     }
@@ -158,7 +151,7 @@ impl PlanState {
         &mut self,
         plan: u16,
         current_chart: &Option<CurrentChart>,
-    ) -> Result<Answer, CommandError<'a>>
+    ) -> Result<Answer, Rejection<'a>>
         ensures { Becomes (drafted_from (current_if_any current_chart.now) (plan_model self.old)) (answer.Draft plan)
             (plan_model self.old) result (plan_model self.new) }
     {
@@ -167,23 +160,23 @@ impl PlanState {
                 *self = PlanState::Draft(Draft::new(Snapshot::of(&current_chart.chart)));
                 Ok(Answer::Draft { plan })
             }
-            _ => Err(Rejection::WrongState.into()),
+            _ => Err(Rejection::WrongState),
         }
     }
 
     // Sets the ends of a draft.
-    pub(crate) fn ends<'a>(&mut self, ends: Ends) -> Result<Answer, CommandError<'a>>
+    pub(crate) fn ends<'a>(&mut self, ends: Ends) -> Result<Answer, Rejection<'a>>
         ensures { IsEndsStep ends (plan_model self.old) result (plan_model self.new) }
     {
         let PlanState::Draft(draft) = self else {
-            return Err(Rejection::WrongState.into());
+            return Err(Rejection::WrongState);
         };
         draft.ends(ends.from, ends.to).map_err(AnyRefusal::Ends)?;
         Ok(Answer::Ends(ends))
     }
 
     // Files a draft.
-    pub(crate) fn file<'a>(&mut self) -> Result<Answer, CommandError<'a>>
+    pub(crate) fn file<'a>(&mut self) -> Result<Answer, Rejection<'a>>
         ensures { Becomes (filed_from (plan_model self.old)) (answer.File 0)
             (plan_model self.old) result (plan_model self.new) }
     {
@@ -199,7 +192,7 @@ impl PlanState {
     }
 
     // Closes a filed plan.
-    pub(crate) fn close<'a>(&mut self) -> Result<Answer, CommandError<'a>>
+    pub(crate) fn close<'a>(&mut self) -> Result<Answer, Rejection<'a>>
         ensures { Becomes (closed_from (plan_model self.old)) answer.Close
             (plan_model self.old) result (plan_model self.new) }
     {
@@ -214,12 +207,12 @@ impl PlanState {
     }
 
     // The plan stays as it was, since it is not in the state that the command needs.
-    fn keep<'a>(&mut self, state: PlanState) -> Result<Answer, CommandError<'a>>
+    fn keep<'a>(&mut self, state: PlanState) -> Result<Answer, Rejection<'a>>
         ensures kept { self.new ≡ state }
         ensures out_of_turn { IsOutOfTurn result }
     {
         *self = state;
-        Err(Rejection::WrongState.into())
+        Err(Rejection::WrongState)
     }
 
     // Draws a filed plan.
@@ -235,17 +228,13 @@ impl PlanState {
     }
 
     // Makes a call of a filed plan. A closed plan still has its status.
-    pub(crate) fn call<'a>(
-        &mut self,
-        alloc: Global,
-        call: &PlanCall,
-    ) -> Result<Answer, CommandError<'a>>
+    fn call<'a>(&mut self, call: &PlanCall) -> Result<Answer, Rejection<'a>>
         ensures { IsCallStep call.now (plan_model self.old) result (plan_model self.new) }
     {
         match (self, call) {
-            (PlanState::Filed(filed), _) => make_call(alloc, filed, call),
+            (PlanState::Filed(filed), _) => make_call(filed, call),
             (PlanState::Closed(closed), PlanCall::Status) => Ok(Answer::Status(closed.status())),
-            _ => Err(Rejection::WrongState.into()),
+            _ => Err(Rejection::WrongState),
         }
     }
 }

@@ -1,4 +1,8 @@
 // The program: the demo that it carries, the commands of a file, or those of standard input.
+ghost use Rattle.std.specs.Prelude.{[], MatchResult};
+ghost use Rattle.console.specs.Sessions.{session_of};
+ghost use Rattle.console.specs.Scripts.{Bytes, TakesScript};
+
 use super::chart_files::{Files, FolderFiles};
 use super::demo::show_demo;
 use super::replies::take_line;
@@ -15,7 +19,13 @@ pub fn run_script<F: Files, R: BufRead + Drop>(
     files: &F,
     session: &mut Session,
     input: R,
-) -> anyhow::Result<()> {
+) -> anyhow::Result<()>
+    ensures { MatchResult result
+        (λ _. TakesScript (F.fetches files.now) (F.stores files.now)
+        (session_of session.old) (R.remaining input) [] (session_of session.new))
+        (λ _. (rest : Bytes) × TakesScript (F.fetches files.now) (F.stores files.now)
+        (session_of session.old) (R.remaining input) rest (session_of session.new)) }
+{
     let alloc = rt.alloc();
     for bytes in input.split(alloc, b'\n') {
         let text = String::from_utf8_lossy(alloc, bytes?.as_slice())?;
@@ -68,7 +78,7 @@ const VERSION: &str = "teffscarp 1.0";
 fn run_file(rt: &HostRuntime, path: &str) -> anyhow::Result<()> {
     let alloc = rt.alloc();
     let file = fs::open(rt, path).context(format_args!("cannot open the script {path}"))?;
-    let mut session = Session::new(alloc)?;
+    let mut session = Session::new(alloc);
     run_script(rt, &FolderFiles, &mut session, BufReader::new(alloc, file)?).context(format_args!(
         "cannot go on with the script {path}"
     ))
@@ -88,7 +98,7 @@ pub fn run(rt: &HostRuntime) -> anyhow::Result<()> {
     }
     match argument.as_str() {
         "-" => {
-            let mut session = Session::new(rt.alloc())?;
+            let mut session = Session::new(rt.alloc());
             run_script(rt, &FolderFiles, &mut session, rt.stdin().lock())
         }
         "--help" => Ok(print!(rt; "{HELP}")?),

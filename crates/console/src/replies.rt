@@ -1,6 +1,7 @@
 // The reply to a line of a script, and what it takes from files and puts into them.
+ghost use Rattle.std.specs.Prelude.{◌≡◌, MatchResult, OnErr};
 ghost use Rattle.console.specs.Sessions.{session_of, bytes_of};
-ghost use Rattle.console.specs.Lines.{IsLineStep};
+ghost use Rattle.console.specs.Lines.{IsLineStep, path_of_picture, IsFetchedFor, NamesChartFile, IsTakenLine};
 
 use super::chart_files::Files;
 use super::session::Session;
@@ -13,7 +14,8 @@ fn reply_to_line<'a>(
     line: Line<'a>,
     file: Option<Vec<u8>>,
 ) -> Result<Option<ReplyLine<'a>>, AllocError>
-    ensures { IsLineStep (session_of session.old) line.entry (bytes_of file) result (session_of session.new) }
+    ensures step { IsLineStep (session_of session.old) line.entry (bytes_of file) result (session_of session.new) }
+    ensures without_memory { OnErr result (session_of session.new ≡ session_of session.old) }
 {
     Ok(match line {
         Line::Comment => None,
@@ -27,7 +29,9 @@ fn reply_to_line<'a>(
 }
 
 // The path that a picture is to be written to, if a line asks for one.
-fn picture_path<'a>(line: &Line<'a>) -> Option<&'a str> {
+fn picture_path<'a>(line: &Line<'a>) -> Option<&'a str>
+    ensures { result ≡ path_of_picture line.now }
+{
     match line {
         Line::Command {
             command: Command::Picture { path, .. },
@@ -42,7 +46,11 @@ fn fetch_for<F: Files>(
     rt: &HostRuntime,
     files: &F,
     line: &Line<'_>,
-) -> Result<Option<Vec<u8>>, AllocError> {
+) -> Result<Option<Vec<u8>>, AllocError>
+    ensures { MatchResult result
+        (λ file. IsFetchedFor (F.fetches files.now) line.now (bytes_of file))
+        (λ _. NamesChartFile line.now) }
+{
     match line {
         Line::Command {
             command: Command::Chart { path },
@@ -58,7 +66,11 @@ pub(crate) fn take_line<'a, F: Files>(
     files: &F,
     session: &mut Session,
     line: Line<'a>,
-) -> Result<Option<ReplyLine<'a>>, AllocError> {
+) -> Result<Option<ReplyLine<'a>>, AllocError>
+    ensures taken { IsTakenLine (F.fetches files.now) (F.stores files.now)
+        (session_of session.old) line.entry result (session_of session.new) }
+    ensures without_memory { OnErr result (session_of session.new ≡ session_of session.old) }
+{
     let file = fetch_for(rt, files, &line)?;
     let to = picture_path(&line);
     let reply = reply_to_line(session, line, file)?;

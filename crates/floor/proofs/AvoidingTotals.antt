@@ -64,9 +64,6 @@ module _ (legs : List Leg) (used : List Bool) where
     away [] c = absurd (apart c.leads)
     away (k ∷ ks) c = record { chain = c; some = omega arith }
 
-    pub no_route_onward : ((r : List ℕ) → IsRouteBetween legs s t r → ⊥) → LeastOnward legs used s t None
-    no_route_onward n r c off = n r (away r c)
-
     pub best_onward : (total : Option ℕ) → IsBest (avoid_rule used) legs s t total → LeastOnward legs used s t total
     best_onward None best = λ r c off. subst (λ x. order_off None x) (off_total r 0 off) (best.every r (away r c))
     best_onward (Some x) best =

@@ -1,21 +1,11 @@
--- A list has one floor outcome, and what each refusal of the floor says of the list.
-use Rattle.std.proofs.Common.{◌≡◌, ℕ, List, [], ◌∷◌, Err, sym, ap, ◌∙◌, inl, inr, arith}
+-- A list has one floor outcome.
+use Rattle.std.proofs.Common.{◌≡◌, ℕ, List, [], ◌∷◌, sym, ap, ◌∙◌, inl, inr}
 use Rattle.chart.specs.Outcomes.{Outcome, values, refused}
 use Rattle.chart.specs.Regret.{Query}
-use Rattle.chart.specs.Floors.{LeavesSource, NoRouteExtends}
-use Rattle.floor.specs.declared.refusals.FloorRefusal.TheVariants.{NotAChain, NoRoute}
-use Rattle.floor.specs.Answers.{floor_outcome, IsFloorOutcome}
+use Rattle.floor.specs.Answers.{IsFloorOutcome}
 use Rattle.floor.proofs.FloorBelowRegret.{floor_is_unique}
 
 module _ (t : Query) (ks : List ℕ) where
-  pub not_a_chain : IsFloorOutcome t ks (floor_outcome (Err NotAChain)) → LeavesSource t ks → ⊥
-  not_a_chain (inl a) = a.1
-  not_a_chain (inr a) = absurd (omega (arith, a.0))
-
-  pub no_route_begins_so : IsFloorOutcome t ks (floor_outcome (Err NoRoute)) → LeavesSource t ks × NoRouteExtends t ks
-  no_route_begins_so (inl a) = absurd (omega (arith, a.0))
-  no_route_begins_so (inr a) = (a.1, a.2)
-
   one_number : (n m : ℕ) → IsFloorOutcome t ks (refused n) → IsFloorOutcome t ks (refused m) → n ≡ m
   one_number n m (inl a) (inl b) = a.0 ∙ sym b.0
   one_number n m (inl a) (inr b) = absurd (a.1 b.1)

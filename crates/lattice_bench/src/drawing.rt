@@ -41,11 +41,11 @@ impl RandomNumbers {
     }
 
     fn step(&mut self, limits: &SpreadLimits) -> Step {
-        let back = self.interval(limits, true);
-        let on = self.interval(limits, false);
-        let ahead = self.interval(limits, true);
+        let row_before = self.interval(limits, true);
+        let same_row = self.interval(limits, false);
+        let row_after = self.interval(limits, true);
         Step {
-            turns: [back, on, ahead],
+            turns: [row_before, same_row, row_after],
         }
     }
 }

@@ -156,19 +156,6 @@ module _ {s : BranchAndBound} {here : ℕ} (ready : IsReady s here) where
   explored_start left is = record { low = 0; others = is; searched = searched_none ready.is_valid (λ q is_route g. let lt = g.1 in absurd (omega arith)); only_incumbent = refl }
 
   module _ {s₁ : BranchAndBound} {left : List ℕ} (explored : LegsExplored s here s₁ left) where
-    -- it may go on from there
-    pub ready_again : IsReady s₁ here
-    ready_again = subst (λ (x : BranchAndBound). IsReady x here) (sym explored.only_incumbent) (record {
-      leaves = ready.leaves;
-      useds = ready.useds;
-      places = ready.places;
-      walk = ready.walk;
-      flagged = ready.flagged;
-      sums = ready.sums;
-      is_valid = explored.searched.is_valid;
-      pursued = ready.pursued;
-    })
-
     pub explored_again : (k : ℕ) (rest : List ℕ) → left ≡ k ∷ rest → (s₂ : BranchAndBound) → IsSearched (searched_query s₁) s₁.incumbent s₂.incumbent (ExtendsBy s₁.chain.items k) → ChangesOnlyIncumbent s₁ s₂ → LegsExplored s here s₂ rest
     explored_again k rest is s₂ part only_incumbent =
         let next = leaving_goes_on t.legs here (sym explored.others ∙ is) in

@@ -48,8 +48,9 @@ impl<'a> BranchAndBound<'a> {
     ghost use Rattle.std.specs.Prelude.{IsTrue, ◌↔◌};
     ghost use Rattle.chart.specs.Floors.{IsPrefix, LeavesSource};
     ghost use Rattle.pursuit.specs.Answers.{IsPursuit};
-    ghost use Rattle.least.specs.internal.BranchAndBound.{searched_query, IsValidIncumbent, Searches, ChangesOnlyIncumbent, IsOnly, ExtendsBy, IsReady};
-    ghost use Rattle.least.specs.internal.BranchAndBound.{HasPrunableChain, BoundShows, FloorShows, TellsByBound, TellsReason};
+    ghost use Rattle.least.specs.internal.BranchAndBound.{searched_query, IsValidIncumbent, Searches};
+    ghost use Rattle.least.specs.internal.BranchAndBound.{ChangesOnlyIncumbent, IsOnly, ExtendsBy, IsReady, TellsReason};
+    ghost use Rattle.least.specs.internal.BranchAndBound.{HasPrunableChain, BoundShows, FloorShows, TellsByBound};
 
     // Keeps the chain where it is a route and better than the incumbent. What it works on is kept out of the frames of the
     // search.

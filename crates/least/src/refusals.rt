@@ -10,9 +10,9 @@ use std::fmt;
 /// Why no route is written. The memory then stays as it is.
 #[derive(Clone, Copy, Debug, PartialEq, Eq)]
 pub enum RouteRefusal {
-    /// The memory has fewer places than a route of the chart can have legs. Its number is 15.
+    /// Number 15: the memory has fewer places than a route of the chart can have legs.
     ShortMemory,
-    /// No route leads from the departure to the destination. Its number is 25.
+    /// Number 25: no route leads from the departure to the destination.
     NoRoute,
 }
 

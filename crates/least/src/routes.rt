@@ -1,5 +1,5 @@
 // The route of least regret, written into the caller's memory, since no call allocates any.
-ghost use Rattle.std.specs.Prelude.{◌≡◌, ◌<◌, IfSome};
+ghost use Rattle.std.specs.Prelude.{◌<◌, IfSome};
 ghost use Rattle.chart.specs.Regret.{query, LeastRegretIsUnique};
 ghost use Rattle.search.specs.Snapshots.{snapshot_fixes, snapshot_legs};
 ghost use Rattle.pursuit.specs.Answers.{IsPursuit};

@@ -3,7 +3,8 @@
 
 ghost use Rattle.std.specs.Prelude.{◌≡◌};
 ghost use Rattle.library_example.specs.Answers.{IsAnswerAfter};
-ghost use Rattle.library_example.specs.declared.NoAnswer.TheVariants.{File, Amendment as NotAmended, Route as NotRouted};
+ghost use Rattle.library_example.specs.declared.NoAnswer.TheVariants.{File, Amendment as NotAmended};
+ghost use Rattle.library_example.specs.declared.NoAnswer.TheVariants.{Route as NotRouted};
 
 use chart::limits::MAX_LEGS;
 use chart::{Row, Standing, Table};

@@ -5,10 +5,12 @@ use std::alloc::{AllocError, Global};
 // The most legs of a chain in the listing.
 const MOST_LEGS: usize = 8;
 
-/// A chain: its legs, the fixes that it meets but for the last, and the fix where it ends.
+/// A chain.
 #[derive(Drop)]
 pub struct Chain {
+    /// The numbers of its legs.
     pub legs: Vec<u16>,
+    // The fixes that it meets, but for the last.
     before: Vec<u16>,
     end: u16,
 }
@@ -22,16 +24,17 @@ impl Chain {
         }
     }
 
-    /// Whether it is a route to the fix.
-    pub fn is_route_to(&self, fix: u16) -> bool {
+    // Whether it is a route to the fix.
+    pub(crate) fn is_route_to(&self, fix: u16) -> bool {
         !self.legs.is_empty() && self.end == fix
     }
 
-    // The fix where it ends.
+    /// The fix where it ends.
     pub fn end(&self) -> u16 {
         self.end
     }
 
+    /// Whether it meets the fix.
     pub fn meets(&self, fix: u16) -> bool {
         self.end == fix || self.before.contains(&fix)
     }

@@ -4,30 +4,30 @@
 use chart::{Row, Standing};
 use std::alloc::{AllocError, Global};
 
-/// A choice: a time for each leg, and the least time of any route under it.
+// A choice: a time for each leg, and the least time of any route under it.
 #[derive(Drop)]
-pub struct Choice {
+pub(crate) struct Choice {
     times: Vec<u32>,
     least: Option<u32>,
 }
 
 impl Choice {
-    /// What a list loses under the choice, in seconds; nothing where there is no route.
-    pub fn loss_of(&self, list: &[u16]) -> u32 {
+    // What a list loses under the choice, in seconds; nothing where there is no route.
+    pub(crate) fn loss_of(&self, list: &[u16]) -> u32 {
         let time = total_time(&self.times, list);
         time.saturating_sub(self.least.unwrap_or(time))
     }
 }
 
-/// The time of a list of legs, by the times of all legs.
-pub fn total_time(times: &[u32], list: &[u16]) -> u32 {
+// The time of a list of legs, by the times of all legs.
+pub(crate) fn total_time(times: &[u32], list: &[u16]) -> u32 {
     list.iter()
         .filter_map(|k| times.get(*k as usize))
         .fold(0u32, |sum, seconds| sum.saturating_add(*seconds))
 }
 
-/// The least time of any of the routes, by the times of all legs.
-pub fn least_total_time(times: &[u32], routes: &[Vec<u16>]) -> Option<u32> {
+// The least time of any of the routes, by the times of all legs.
+pub(crate) fn least_total_time(times: &[u32], routes: &[Vec<u16>]) -> Option<u32> {
     routes.iter().map(|route| total_time(times, route)).min()
 }
 
@@ -62,8 +62,8 @@ fn all_times(alloc: Global, rows: &[Row]) -> Result<Vec<Vec<u32>>, AllocError> {
     Ok(all)
 }
 
-/// Every choice, beside these routes. An error is want of memory.
-pub fn all_choices(
+// Every choice, beside these routes. An error is want of memory.
+pub(crate) fn all_choices(
     alloc: Global,
     rows: &[Row],
     routes: &[Vec<u16>],
@@ -86,8 +86,8 @@ fn time_against(rows: &[Row], route: &[u16], list: &[u16]) -> u32 {
         .fold(0u32, |sum, seconds| sum.saturating_add(seconds))
 }
 
-/// What a route loses in its worst choice, beside these routes.
-pub fn loss_at_worst(rows: &[Row], routes: &[Vec<u16>], route: &[u16]) -> u32 {
+// What a route loses in its worst choice, beside these routes.
+pub(crate) fn loss_at_worst(rows: &[Row], routes: &[Vec<u16>], route: &[u16]) -> u32 {
     let time = time_against(rows, route, route);
     let least = routes
         .iter()

@@ -2,14 +2,13 @@
 // what is to be answered. It sees plain rows alone, and shares no code with the searches that are compared with it.
 #![tactic(auto)]
 
-pub mod chain;
-pub mod choice;
-pub mod filled_memory;
-pub mod listing;
-pub mod test_charts;
+mod chain;
+mod choice;
+mod filled_memory;
+mod listing;
+mod test_charts;
 
 pub use chain::{Chain, all_chains};
-pub use choice::Choice;
 pub use filled_memory::{FILLER, are_untouched};
 pub use listing::{ListedRoute, Listing};
 pub use test_charts::{DrawnNumbers, Turns, grid_rows};

@@ -26,7 +26,9 @@ pub struct Listing {
 /// A route and its regret.
 #[derive(Clone, Copy)]
 pub struct ListedRoute<'a> {
+    /// The regret of the route, in seconds.
     pub regret: u32,
+    /// The numbers of its legs.
     pub list: &'a [u16],
 }
 
@@ -206,9 +208,9 @@ impl Listing {
     }
 }
 
-/// Whether the one list comes before the other: the smaller number where they first differ, or it begins the other. It is written
-/// out here, since the search that is compared with the listing goes by std's order of lists.
-pub fn comes_before(a: &[u16], b: &[u16]) -> bool {
+// Whether the one list comes before the other: the smaller number where they first differ, or it begins the other. It is written
+// out here, since the search that is compared with the listing goes by std's order of lists.
+fn comes_before(a: &[u16], b: &[u16]) -> bool {
     let differ = a.iter().zip(b).find(|(x, y)| x != y);
     match differ {
         Some((x, y)) => x < y,

@@ -202,9 +202,10 @@ impl Sheet<'_> {
     }
 }
 
-/// A chart as a file of SVG, with its legs as lines from fix to fix. Fixes stand in the columns of a lattice where the legs join them as
-/// those of a lattice do; else in layers, by how many legs lead to them from the departure. Legs of the route are bold and closed ones dashed; each has its
-/// number and its low and high time in seconds beside it, unless there are more than 160 legs or 17 columns. An error is want of memory.
+/// A chart as a file of SVG, with its legs as lines from fix to fix. Fixes stand in the columns of a lattice where the legs join
+/// them as those of a lattice do; else in layers, by how many legs lead to them from the departure. Legs of the route are bold
+/// and closed ones dashed; each has its number and its low and high time in seconds beside it, unless there are more than 160
+/// legs or 17 columns. An error is want of memory.
 pub fn svg_of<C: Chart>(
     alloc: Global,
     chart: &C,

@@ -47,7 +47,7 @@ fn show_four_fixes(rt: &HostRuntime) -> anyhow::Result<()> {
 // A step of a lattice: a turn takes a minute more, and every next step a little longer.
 fn step(number: u16) -> Step {
     let low = 2400 + 40 * number as u32;
-    let ahead = Interval {
+    let straight = Interval {
         low,
         high: low + 240,
     };
@@ -56,7 +56,7 @@ fn step(number: u16) -> Step {
         high: low + 360,
     };
     Step {
-        turns: [aside, ahead, aside],
+        turns: [aside, straight, aside],
     }
 }
 

@@ -34,7 +34,8 @@ impl<C: Chart> Draft<C> {
     /// Sets the ends to two different fixes. It is refused with 11 where one of them is no fix of the chart, and with 12 where
     /// both are the same; the draft then keeps the ends that it had.
     pub fn ends(&mut self, departure: u16, destination: u16) -> Result<(), EndsRefusal>
-        ensures outcome { IsEndsOutcome (C.fixes (chart_of_draft self.old)) departure destination (ends_outcome result) }
+        ensures outcome { IsEndsOutcome (C.fixes (chart_of_draft self.old)) departure destination
+            (ends_outcome result) }
         ensures sets_the_ends { MatchResult result
             (λ _. HasNewEnds self.old self.new departure destination)
             (λ _. self.new ≡ self.old) }

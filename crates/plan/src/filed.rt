@@ -29,10 +29,11 @@ pub struct Filed<C> {
 }
 
 impl<C> Filed<C> {
-    ghost use Rattle.plan.specs.internal.AmendedLegs.{HasRoom, ChangesOnlyAmended, place_of, insert_amended, remove_amended, set_amended};
+    ghost use Rattle.plan.specs.internal.AmendedLegs.{HasRoom, ChangesOnlyAmended, place_of, insert_amended};
+    ghost use Rattle.plan.specs.internal.AmendedLegs.{remove_amended, set_amended};
 
     // Where the leg of a number stands among those that stand amended.
-    pub(crate) fn place(&self, number: u16) -> Option<usize>
+    fn place(&self, number: u16) -> Option<usize>
         ensures { result ≡ place_of self.now.amended.items number }
     {
         self.amended
@@ -74,7 +75,8 @@ impl<C: Chart> Filed<C> {
     ghost use Rattle.plan.specs.Amendments.{ChangeHasValidTimes, restores};
     ghost use Rattle.plan.specs.Ledgers.{query_of, outcome_on, ledger_after};
     ghost use Rattle.plan.specs.Plans.{chart_of, ledger_of, status_of, status_at_close};
-    ghost use Rattle.plan.specs.Answers.{amend_outcome, quickest_outcome, level_outcome, IsQuickestOutcome, IsLevelOutcome};
+    ghost use Rattle.plan.specs.Answers.{amend_outcome, quickest_outcome, level_outcome, IsQuickestOutcome};
+    ghost use Rattle.plan.specs.Answers.{IsLevelOutcome};
     ghost use Rattle.plan.specs.internal.AmendedLegs.{HasRoom, IsCheckResult};
 
     // The plan's leg that is to be amended, or the first ground that refuses the amendment.

@@ -10,17 +10,17 @@ use std::fmt;
 /// Why a plan is not amended, in the order in which the grounds are tried. The plan then stays what it was.
 #[derive(Clone, Copy, Debug, PartialEq, Eq)]
 pub enum AmendRefusal {
-    /// 13: the chart has no leg of the number.
+    /// Number 13: the chart has no leg of the number.
     NoSuchLeg,
-    /// 8: a time is outside its limits, or low is above high.
+    /// Number 8: a time is outside its limits, or low is above high.
     BadTimes,
-    /// 22: the plan stands at the last revision.
+    /// Number 22: the plan stands at the last revision.
     LastRevision,
-    /// 21: the plan stands at another revision than the one given.
+    /// Number 21: the plan stands at another revision than the one given.
     OtherRevision,
-    /// 24: the leg to be restored does not stand amended.
+    /// Number 24: the leg to be restored does not stand amended.
     NotAmended,
-    /// 23: as many legs as can be stand amended, and this is none of them.
+    /// Number 23: as many legs as can be stand amended, and this is none of them.
     NoPlace,
 }
 
@@ -59,9 +59,9 @@ impl Error for AmendRefusal {}
 /// Why a draft does not take its ends, in the order in which the grounds are tried. The draft then keeps the ends that it had.
 #[derive(Clone, Copy, Debug, PartialEq, Eq)]
 pub enum EndsRefusal {
-    /// 11: one of them is no fix of the chart.
+    /// Number 11: one of them is no fix of the chart.
     NoSuchFix,
-    /// 12: both are the same.
+    /// Number 12: both are the same.
     SameFix,
 }
 
@@ -92,7 +92,7 @@ impl Error for EndsRefusal {}
 /// Why there is no best total.
 #[derive(Clone, Copy, Debug, PartialEq, Eq)]
 pub enum BestRefusal {
-    /// 25: no route leads from the departure to the destination.
+    /// Number 25: no route leads from the departure to the destination.
     NoRoute,
 }
 

@@ -41,7 +41,7 @@ fn second() -> [Attempt; 7] {
     ]
 }
 
-// What the listing answers is printed, and the plan answers it.
+/// What the listing answers is printed, and the plan answers it.
 pub fn show_four_fixes(rt: &HostRuntime) -> anyhow::Result<()> {
     let alloc = rt.alloc();
     let rows = rows_of(alloc, &FOUR_FIXES)?;
@@ -63,7 +63,7 @@ pub fn show_four_fixes(rt: &HostRuntime) -> anyhow::Result<()> {
     Ok(())
 }
 
-// Ends that are refused leave those that were set before, and ends that are taken are the plan's.
+/// Ends that are refused leave those that were set before, and ends that are taken are the plan's.
 pub fn show_ends(rt: &HostRuntime) -> anyhow::Result<()> {
     let alloc = rt.alloc();
     let rows = rows_of(alloc, &FOUR_FIXES)?;

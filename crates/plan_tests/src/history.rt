@@ -31,7 +31,7 @@ fn run_history<C: Chart + Drop>(
     Ok(())
 }
 
-// One history, with its name.
+/// One history, with its name.
 pub fn show_history<C: Chart + Drop>(
     rt: &HostRuntime,
     name: &str,
@@ -64,7 +64,7 @@ fn show_table(
     show_history(rt, name, Table::of(fixes, rows)?, fixes, ends, rows, random)
 }
 
-// Histories on charts that are given.
+/// Histories on charts that are given.
 pub fn show_tables(rt: &HostRuntime) -> anyhow::Result<()> {
     let alloc = rt.alloc();
     let random = &mut Random::new(1);
@@ -83,7 +83,7 @@ pub fn show_tables(rt: &HostRuntime) -> anyhow::Result<()> {
     show_table(rt, "six fixes", 6, None, &six, random)
 }
 
-// Histories on charts that are drawn, of 4 to 6 fixes and 7 to 9 legs.
+/// Histories on charts that are drawn, of 4 to 6 fixes and 7 to 9 legs.
 pub fn show_drawn(rt: &HostRuntime) -> anyhow::Result<()> {
     let alloc = rt.alloc();
     let mut tally = Tally::new(alloc);
@@ -135,7 +135,7 @@ fn show_lattice(
     show_history(rt, name.as_str(), lattice, fixes, Some(ends), &own, random)
 }
 
-// Histories on lattices.
+/// Histories on lattices.
 pub fn show_lattices(rt: &HostRuntime) -> anyhow::Result<()> {
     let random = &mut Random::new(7);
     show_lattice(rt, 2, 2, Ends { from: 0, to: 5 }, random)?;
@@ -172,7 +172,7 @@ fn file_above<C: Chart + Drop>(
     Ok(TrackedPlan { plan, ledger })
 }
 
-// A plan on a table is amended; a plan is filed on it, amended and closed; and so on.
+/// A plan on a table is amended; a plan is filed on it, amended and closed; and so on.
 pub fn show_plans_on_plans(rt: &HostRuntime) -> anyhow::Result<()> {
     let alloc = rt.alloc();
     let rows = rows_of(alloc, &DENSE)?;

@@ -91,7 +91,7 @@ fn first_amended(alloc: Global) -> Result<Vec<Attempt>, AllocError> {
         .collect(alloc)
 }
 
-// With 64 legs amended, a further one is refused until one of them is restored.
+/// With 64 legs amended, a further one is refused until one of them is restored.
 pub fn show_most_amended(rt: &HostRuntime) -> anyhow::Result<()> {
     let alloc = rt.alloc();
     let rows = own_rows(alloc)?;
@@ -161,7 +161,7 @@ fn granted_in(alloc: Global, run: u16) -> Result<Vec<Attempt>, AllocError> {
         .collect(alloc)
 }
 
-// With 999 amendments granted, none is granted any more, and the plan answers as before.
+/// With 999 amendments granted, none is granted any more, and the plan answers as before.
 pub fn show_last_revision(rt: &HostRuntime) -> anyhow::Result<()> {
     let alloc = rt.alloc();
     let rows = rows_of(alloc, &FOUR_FIXES)?;

@@ -4,13 +4,14 @@ use listing::DrawnNumbers;
 use plan::{Amendment, Change};
 use reference::Ledger;
 
-// Numbers that are drawn, and what is made of them.
+/// Numbers that are drawn, and what is made of them.
 #[derive(Clone, Copy)]
 pub struct Random {
     numbers: DrawnNumbers,
 }
 
 impl Random {
+    /// Numbers that begin with this one.
     pub fn new(state: u64) -> Random {
         Random {
             numbers: DrawnNumbers::new(state),
@@ -21,11 +22,12 @@ impl Random {
         self.numbers.below(n)
     }
 
+    /// A number below `n`; zero where `n` is zero.
     pub fn small(&mut self, n: u16) -> u16 {
         self.numbers.small(n)
     }
 
-    // Times within their limits, now and then at their limits.
+    /// Times within their limits, now and then at their limits.
     pub fn times(&mut self) -> Interval {
         let low = self.below(600);
         match self.below(12) {
@@ -91,6 +93,7 @@ impl Random {
         }
     }
 
+    /// An amendment of the plan that the ledger is of: now and then of no leg, or for another revision.
     pub fn amendment(&mut self, ledger: &Ledger) -> Amendment {
         Amendment {
             revision: self.revision(ledger),

@@ -7,6 +7,7 @@ use std::alloc::{AllocError, Global};
 // A leg: from, to, low, high, top.
 type PlainLeg = (u16, u16, u32, u32, u16);
 
+/// Four fixes: three routes lead from the first to the last.
 pub const FOUR_FIXES: [PlainLeg; 5] = [
     (0, 1, 300, 400, 390),
     (1, 3, 300, 500, 350),
@@ -15,6 +16,7 @@ pub const FOUR_FIXES: [PlainLeg; 5] = [
     (1, 2, 50, 100, 330),
 ];
 
+/// Four fixes: two legs side by side lead from each to the next, and two more past a fix.
 pub const PARALLEL: [PlainLeg; 8] = [
     (0, 1, 10, 30, 300),
     (0, 1, 10, 30, 310),
@@ -26,6 +28,7 @@ pub const PARALLEL: [PlainLeg; 8] = [
     (1, 3, 20, 60, 290),
 ];
 
+/// Five fixes: legs lead both ways between two of them.
 pub const DENSE: [PlainLeg; 9] = [
     (0, 1, 10, 60, 200),
     (0, 2, 20, 40, 300),
@@ -38,6 +41,7 @@ pub const DENSE: [PlainLeg; 9] = [
     (3, 4, 10, 40, 0),
 ];
 
+/// Six fixes: legs lead round among three of them.
 pub const SIX_FIXES: [PlainLeg; 9] = [
     (0, 1, 100, 200, 300),
     (0, 2, 120, 180, 310),
@@ -50,7 +54,7 @@ pub const SIX_FIXES: [PlainLeg; 9] = [
     (4, 2, 5, 5, 380),
 ];
 
-// The rows of these legs.
+/// The rows of these legs.
 pub fn rows_of(alloc: Global, legs: &[PlainLeg]) -> Result<Vec<Row>, AllocError> {
     legs.iter()
         .map(|leg| Row {
@@ -76,7 +80,7 @@ fn drawn_fixes(random: &mut Random, fixes: u16, k: u16) -> (u16, u16) {
     (from, to)
 }
 
-// The rows of so many legs that are drawn.
+/// The rows of so many legs that are drawn.
 pub fn drawn_rows(
     alloc: Global,
     random: &mut Random,
@@ -106,8 +110,8 @@ fn opened(leg: &Row) -> Row {
     }
 }
 
-// Every chain of these legs, were all of them open; each without its first leg; and lists with a leg twice or with a number
-// that no leg has.
+/// Every chain of these legs, were all of them open; each without its first leg; and lists with a leg twice or with a number
+/// that no leg has.
 pub fn all_lists(alloc: Global, legs: &[Row], ends: Ends) -> Result<Vec<Vec<u16>>, AllocError> {
     let open: Vec<Row> = legs.iter().map(|leg| opened(leg)).collect(alloc)?;
     let mut lists = Vec::new(alloc);

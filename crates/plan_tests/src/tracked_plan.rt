@@ -7,7 +7,7 @@ use reference::{Batch, Ledger, has_legs};
 use std::alloc::{AllocError, Global};
 use std::fmt;
 
-// A change of a leg, for the revision that the plan has, or for one that is so many behind it.
+/// A change of a leg, for the revision that the plan has, or for one that is so many behind it.
 #[derive(Clone, Copy)]
 pub struct Attempt {
     behind: u16,
@@ -16,7 +16,7 @@ pub struct Attempt {
 }
 
 impl Attempt {
-    // A change for the revision that the plan has.
+    /// A change for the revision that the plan has.
     pub fn now(leg: u16, change: Change) -> Attempt {
         Attempt {
             behind: 0,
@@ -25,7 +25,7 @@ impl Attempt {
         }
     }
 
-    // A change for the revision before.
+    /// A change for the revision before.
     pub fn stale(leg: u16, change: Change) -> Attempt {
         Attempt {
             behind: 1,
@@ -35,7 +35,7 @@ impl Attempt {
     }
 }
 
-// How often a plan was amended and asked, and how it answered. The numbers of the refusals are kept in the order in which they came.
+/// How often a plan was amended and asked, and how it answered. The numbers of the refusals are kept in the order in which they came.
 #[derive(Drop)]
 pub struct Tally {
     granted: usize,
@@ -45,6 +45,7 @@ pub struct Tally {
 }
 
 impl Tally {
+    /// Nothing was asked yet.
     pub fn new(alloc: Global) -> Tally {
         Tally {
             granted: 0,
@@ -55,7 +56,7 @@ impl Tally {
     }
 
     // Counts an amendment.
-    pub fn amended(&mut self, expected: Result<u16, u8>) -> Result<(), AllocError> {
+    fn amended(&mut self, expected: Result<u16, u8>) -> Result<(), AllocError> {
         match expected {
             Ok(_) => self.granted = self.granted.saturating_add(1),
             Err(number) => self.refused.push(number)?,
@@ -64,7 +65,7 @@ impl Tally {
     }
 
     // Counts the questions on legs that have a route or none.
-    pub fn asked(&mut self, has_route: bool) {
+    fn asked(&mut self, has_route: bool) {
         let count = if has_route {
             &mut self.routes
         } else {
@@ -101,16 +102,18 @@ impl fmt::Display for Tally {
 // How many amendments stand between questions.
 const BETWEEN: usize = 4;
 
-// A filed plan, and what is kept of it from the amendments alone.
+/// A filed plan, and what is kept of it from the amendments alone.
 #[derive(Drop)]
 pub struct TrackedPlan<C> {
+    /// The plan.
     pub plan: Filed<C>,
+    /// What is kept of it.
     pub ledger: Ledger,
 }
 
 impl<C: Chart + Drop> TrackedPlan<C> {
-    // Files a plan on a chart of so many fixes and of these legs, between the ends given, or the first and the last fix. It is asked in
-    // the call that files it.
+    /// Files a plan on a chart of so many fixes and of these legs, between the ends given, or the first and the last fix. It is asked in
+    /// the call that files it.
     pub fn file(
         alloc: Global,
         chart: C,
@@ -135,8 +138,8 @@ impl<C: Chart + Drop> TrackedPlan<C> {
         }
     }
 
-    // Whether the plan answers the batch as is expected, and then has the ledger's legs. The run is first tried with too few replies and
-    // with too few places: had the plan been changed then, it would answer otherwise.
+    /// Whether the plan answers the batch as is expected, and then has the ledger's legs. The run is first tried with too few replies and
+    /// with too few places: had the plan been changed then, it would answer otherwise.
     pub fn is_as_expected(&mut self, batch: &Batch<'_>) -> Result<bool, AllocError> {
         Ok(
             batch.is_refused_short(&mut self.plan)?
@@ -146,7 +149,7 @@ impl<C: Chart + Drop> TrackedPlan<C> {
     }
 
     // Adds an amendment to a batch, and a status call behind it. It answers what is expected.
-    pub fn attempt(
+    fn attempt(
         &mut self,
         batch: &mut Batch<'_>,
         given: Attempt,
@@ -162,7 +165,7 @@ impl<C: Chart + Drop> TrackedPlan<C> {
         Ok(expected)
     }
 
-    // Adds these amendments to a batch, and all questions behind them. It answers what is expected of each amendment.
+    /// Adds these amendments to a batch, and all questions behind them. It answers what is expected of each amendment.
     pub fn attempt_all<'a>(
         &mut self,
         alloc: Global,
@@ -178,7 +181,7 @@ impl<C: Chart + Drop> TrackedPlan<C> {
         Ok(expected)
     }
 
-    // Adds amendments to a batch. Each is to be granted.
+    /// Adds amendments to a batch. Each is to be granted.
     pub fn grant_all(&mut self, batch: &mut Batch<'_>, given: &[Attempt]) -> anyhow::Result<()> {
         for one in given {
             let expected = self.attempt(batch, *one)?;
@@ -187,7 +190,7 @@ impl<C: Chart + Drop> TrackedPlan<C> {
         Ok(())
     }
 
-    // Adds a route call with each of these numbers of places. It answers what is expected of each.
+    /// Adds a route call with each of these numbers of places. It answers what is expected of each.
     pub fn route_on_places(
         &self,
         alloc: Global,
@@ -202,7 +205,7 @@ impl<C: Chart + Drop> TrackedPlan<C> {
         Ok(expected)
     }
 
-    // Prints what is expected of the questions on the legs as they stand, and of the regret and the floor of these lists.
+    /// Prints what is expected of the questions on the legs as they stand, and of the regret and the floor of these lists.
     pub fn show_expected(&self, rt: &HostRuntime, lists: &[&[u16]]) -> anyhow::Result<()> {
         let listing = self.ledger.listing(rt.alloc())?;
         let least = listing
@@ -219,7 +222,7 @@ impl<C: Chart + Drop> TrackedPlan<C> {
         Ok(())
     }
 
-    // Amends the plan and asks it, twice in one run. It answers whether all was as expected.
+    /// Amends the plan and asks it, twice in one run. It answers whether all was as expected.
     pub fn advance(
         &mut self,
         alloc: Global,
@@ -240,7 +243,7 @@ impl<C: Chart + Drop> TrackedPlan<C> {
         self.is_as_expected(&batch)
     }
 
-    // Closes the plan. It answers whether the status that is kept is the ledger's, and the chart that is given back has its own legs.
+    /// Closes the plan. It answers whether the status that is kept is the ledger's, and the chart that is given back has its own legs.
     pub fn close(self) -> (C, bool) {
         let TrackedPlan { plan, ledger } = self;
         let (closed, chart) = plan.close();

@@ -1,7 +1,7 @@
 -- What `split_once` gives at an ASCII character.
-use Rattle.std.proofs.Common.{◌≡◌, ℕ, ◌<◌, ◌==◌, List, Contains, Option, Some, None, Bor, sym, arith}
+use Rattle.std.proofs.Common.{◌≡◌, ℕ, ◌<◌, ◌==◌, List, Contains, Option, Some, Bor, sym, arith}
 use Rattle.std.specs.List.{before_first, after_first}
-use Rattle.std.proofs.lemmas.List.Sums.{fails_before_first, passes_at_first}
+use Rattle.std.proofs.lemmas.List.Sums.{passes_at_first}
 use Rattle.std.proofs.lemmas.Bool.Decides.{nat_tests}
 use Rattle.std.proofs.lemmas.Str.Pattern.{IsSplitOnceResult, split_once_first}
 
@@ -16,8 +16,3 @@ module _ (code : ℕ) (ascii : code < 128) (text : List ℕ) (r : Option (Bor (L
       let (inside, front, back) = rw is at (split_once_first code text r split ascii) in
       let there = passes_at_first (λ b. b == code) text code inside in
       record { found = (_, inside, grind (arith, nat_tests)); front_is = sym front; back_is = sym back }
-
-  pub lacks : r ≡ None → ¬ Contains text code
-  lacks is (place, inside, there) =
-      let none = rw is at (split_once_first code text r split ascii) in
-      grind (arith, nat_tests, fails_before_first (λ b. b == code) text place code (omega arith))

@@ -1,6 +1,6 @@
 -- How the steps of taking a line apart pass on what they find.
-use Rattle.std.proofs.Common.{◌≡◌, ◌≢◌, refl, ℕ, ◌+◌, ◌*◌, ◌<◌, List, [], ◌∷◌, ◌++◌, ◌-◌, ◌≤◌, length, take, drop, slice_index, slice_index_or, Result, Ok, Err, Bor, IsErrAnd, IfOk, Contains, suc, ap, ◌∙◌, arith, below_more}
-use Rattle.std.specs.List.{before_first, after_first}
+use Rattle.std.proofs.Common.{◌≡◌, ◌≢◌, refl, ℕ, ◌+◌, ◌*◌, ◌<◌, List, [], ◌∷◌, ◌++◌, ◌-◌, ◌≤◌, length, take, drop, Result, Ok, Err, IsErrAnd, IfOk, ap, ◌∙◌, arith, below_more}
+use Rattle.std.specs.Prelude.{⊤}
 use Rattle.std.proofs.lemmas.List.{get_or_append_left, get_or_at, length-append, length-drop, take_all}
 use Rattle.std.proofs.lemmas.Result.{err_from_is_err_and}
 use Rattle.std.specs.declared.alloc.AllocError.{AllocError}
@@ -11,26 +11,33 @@ use Rattle.chart.specs.Grid.{step_at, no_step}
 use Rattle.plan.specs.declared.amendment.Change.{Change}
 use Rattle.plan.specs.declared.amendment.Change.TheVariants.{Close, Times, Restore}
 use Rattle.protocol.specs.declared.parsing.ParseError.{ParseError}
-use Rattle.protocol.specs.declared.parsing.ParseError.TheVariants.{Malformed, NoMemory}
+use Rattle.protocol.specs.declared.parsing.ParseError.TheVariants.{Malformed as MalformedWords, NoMemory}
+use Rattle.protocol.specs.declared.parsing.Malformed.{Malformed}
 use Rattle.protocol.specs.declared.command.Verb.{Verb}
 use Rattle.protocol.specs.declared.command.Verb.TheVariants.{Chart, Lattice, Name, Draft, Ends, File, Amend, Route, Regret, Floor, Quickest, Level, Status, Close as CloseVerb, Picture}
 use Rattle.protocol.specs.declared.command.Command.{Command}
-use Rattle.protocol.specs.Lines.{Words, word, dash, SaysNumber, SaysTimes, SaysInterval, SaysStep, SaysSteps, SaysChange, SaysOfPlan, SaysCommand, SaysLine, IsWordsOf}
-use Rattle.protocol.specs.internal.Parses.{Refutes, Parses, SaysFirst, SaysFirstSteps}
+use Rattle.protocol.specs.Lines.{Words, word, dash, SaysTimes, SaysInterval, SaysStep, SaysSteps, SaysChange, SaysOfPlan, SaysCommand, SaysLine, IsWordsOf}
+use Rattle.protocol.specs.internal.Parses.{Reads, Refutes, Parses, CollectsNumbers, CollectsList, SaysFirstSteps}
 use Rattle.protocol.proofs.Cut.{IsCut}
 
 -- the whole says nothing where a part of it says nothing
 pub refutes_whole : {T U : Type 0} (says : T → Type 0) (whole : U → Type 0) (e : ParseError)
-    → Refutes says e → ((u : U) → whole u → (t : T) × says t) → Refutes whole e
-refutes_whole says whole Malformed never part = λ u w. never (part u w).0 (part u w).1
+    → Refutes ⊤ says e → ((u : U) → whole u → (t : T) × says t) → Refutes ⊤ whole e
+refutes_whole says whole MalformedWords never part = λ u w. never (part u w).0 (part u w).1
 refutes_whole says whole (NoMemory _) never part = tt
 
 -- the error of a part is that of the whole
 pub passed_on : {T U : Type 0} (says : T → Type 0) (whole : U → Type 0) (e : ParseError) (r : Result U ParseError)
-    → IsErrAnd r (λ x. x ≡ e) → Refutes says e → ((u : U) → whole u → (t : T) × says t) → Parses whole r
+    → IsErrAnd r (λ x. x ≡ e) → Refutes ⊤ says e → ((u : U) → whole u → (t : T) × says t) → Parses ⊤ whole r
 passed_on says whole e r same never part =
     let p = err_from_is_err_and r same in
     rw (p.1, p.2) (refutes_whole says whole e never part)
+
+-- the whole is malformed where a part of it is
+pub malformed_part : {T U : Type 0} (says : T → Type 0) (whole : U → Type 0) (e : Malformed) (r : Result U Malformed)
+    → IsErrAnd r (λ x. x ≡ e) → ((t : T) → says t → ⊥) → ((u : U) → whole u → (t : T) × says t) → Reads whole r
+malformed_part says whole e r same never part =
+    rw (err_from_is_err_and r same).1 (λ u w. never (part u w).0 (part u w).1)
 
 pub times_of_change : (words : Words) (change : Change) → length words ≡ 3 → SaysChange words change
     → (interval : Interval) × SaysTimes (word words 1) (word words 2) interval
@@ -38,19 +45,10 @@ times_of_change words Close three says = absurd (omega arith)
 times_of_change words (Times interval) three says = (interval, says.2)
 times_of_change words Restore three says = absurd (omega arith)
 
-pub interval_cut : (text low high : List ℕ) → IsCut dash text low high → (r : Result Interval ParseError)
-    → Parses (SaysTimes low high) r → Parses (SaysInterval text) r
+pub interval_cut : (text low high : List ℕ) → IsCut dash text low high → (r : Result Interval Malformed)
+    → Reads (SaysTimes low high) r → Reads (SaysInterval text) r
 interval_cut text low high k (Ok i) says = (k.found, rw (k.front_is, k.back_is) says)
-interval_cut text low high k (Err Malformed) never = λ i s. never i (rw (← k.front_is, ← k.back_is) s.1)
-interval_cut text low high k (Err (NoMemory e)) never = tt
-
-pub numbers_more : (words : Words) (n : ℕ) (list : List ℕ) (x : ℕ) → SaysFirst words n list
-    → SaysNumber 16 (word words n) x → SaysFirst words (n + 1) (list ++ x ∷ [])
-numbers_more words n list x (len, says) new =
-    let old : (k : ℕ) → k < n → SaysNumber 16 (word words k) (slice_index (list ++ x ∷ []) k) =
-    λ k below. rw (get_or_append_left list (x ∷ []) 0 k (omega arith)) (says k below) in
-    let last : SaysNumber 16 (word words n) (slice_index (list ++ x ∷ []) n) = rw (get_or_at list x [] 0 n len) new in
-    (length-append list (x ∷ []) ∙ ap (λ m. m + 1) len, below_more _ _ old last)
+interval_cut text low high k (Err e) never = λ i s. never i (rw (← k.front_is, ← k.back_is) s.1)
 
 pub steps_more : (words : Words) (n : ℕ) (steps : List Step) (step : Step) → SaysFirstSteps words n steps
     → SaysStep (word words (3 * n)) (word words (3 * n + 1)) (word words (3 * n + 2)) step → SaysFirstSteps words (n + 1) (steps ++ step ∷ [])
@@ -71,7 +69,8 @@ steps_moved xs ys same steps says = rw (← same) says
 
 -- a verb that begins no command of its own begins one of a plan
 pub command_of_plan : (verb : Verb) (words : Words) (r : Result Command ParseError) → verb ≢ Chart
-    → verb ≢ Lattice → verb ≢ Name → verb ≢ Picture → Parses (SaysOfPlan verb words) r → Parses (SaysCommand verb words) r
+    → verb ≢ Lattice → verb ≢ Name → verb ≢ Picture → Parses (CollectsNumbers verb) (SaysOfPlan verb words) r
+    → Parses (CollectsList verb) (SaysCommand verb words) r
 command_of_plan Chart words r a b c d says = absurd (a refl)
 command_of_plan Lattice words r a b c d says = absurd (b refl)
 command_of_plan Name words r a b c d says = absurd (c refl)

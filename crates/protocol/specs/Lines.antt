@@ -1,5 +1,6 @@
 -- Which line of a script says which command: the words of a line, and what they say.
-use Rattle.std.specs.Prelude.{◌≡◌, ℕ, ◌+◌, ◌*◌, ◌^◌, ◌<◌, ◌≤◌, ◌==◌, ◌≢◌, ◌⊎◌, List, [], length, drop, slice_index, slice_index_or, codes, Contains, Option, Some, None, ⊤}
+use Rattle.std.specs.Prelude.{◌≡◌, ℕ, ◌+◌, ◌*◌, ◌^◌, ◌<◌, ◌≤◌, ◌==◌, ◌≢◌, ◌⊎◌, List, [], length, drop, slice_index, slice_index_or, codes}
+use Rattle.std.specs.Prelude.{Contains, Option, Some, None, ⊤}
 use Rattle.std.specs.Borrow.{Bor}
 use Rattle.std.specs.Iterator.{DrainsIf}
 use Rattle.std.specs.List.{before_first, after_first}
@@ -17,14 +18,17 @@ use Rattle.plan.specs.declared.amendment.Change.{Change}
 use Rattle.plan.specs.declared.amendment.Change.TheVariants.{Close as CloseLeg, Times, Restore}
 use Rattle.protocol.specs.Verbs.{verb_word}
 use Rattle.protocol.specs.declared.command.Verb.{Verb}
-use Rattle.protocol.specs.declared.command.Verb.TheVariants.{Chart, Lattice, Name, Draft, Ends as EndsVerb, File, Amend, Route, Regret, Floor, Quickest, Level, Status, Close, Picture}
+use Rattle.protocol.specs.declared.command.Verb.TheVariants.{Chart, Lattice, Name, Draft, Ends as EndsVerb, File, Amend, Route, Regret}
+use Rattle.protocol.specs.declared.command.Verb.TheVariants.{Floor, Quickest, Level, Status, Close, Picture}
 use Rattle.protocol.specs.declared.command.LatticeRequest.{LatticeRequest}
-use Rattle.protocol.specs.declared.command.PlanCall.{PlanCall}
-use Rattle.protocol.specs.declared.command.PlanCall.TheVariants.{Amend as AmendCall, Route as RouteCall, Regret as RegretCall, Floor as FloorCall, Quickest as QuickestCall, Level as LevelCall, Status as StatusCall}
+use Rattle.protocol.specs.declared.command.PlanCall.TheVariants.{Amend as AmendCall, Route as RouteCall, Regret as RegretCall}
+use Rattle.protocol.specs.declared.command.PlanCall.TheVariants.{Floor as FloorCall, Quickest as QuickestCall, Level as LevelCall}
+use Rattle.protocol.specs.declared.command.PlanCall.TheVariants.{Status as StatusCall}
 use Rattle.protocol.specs.declared.command.PlanCommand.{PlanCommand}
 use Rattle.protocol.specs.declared.command.PlanCommand.TheVariants.{Draft as DraftPlan, Ends as SetEnds, File as FilePlan, Call, Close as ClosePlan}
 use Rattle.protocol.specs.declared.command.Command.{Command}
-use Rattle.protocol.specs.declared.command.Command.TheVariants.{Chart as ReadChart, Lattice as MakeLattice, Name as AskName, Plan, Picture as DrawPicture}
+use Rattle.protocol.specs.declared.command.Command.TheVariants.{Chart as ReadChart, Lattice as MakeLattice, Name as AskName, Plan}
+use Rattle.protocol.specs.declared.command.Command.TheVariants.{Picture as DrawPicture}
 use Rattle.protocol.specs.declared.command.Line.{Line}
 use Rattle.protocol.specs.declared.command.Line.TheVariants.{Comment, Command as CommandLine, Malformed, Unknown}
 
@@ -72,8 +76,8 @@ SaysInterval text interval = Contains text dash
 
 -- three intervals, in the order of the turns −1, 0, +1
 abbrev pub SaysStep : List ℕ → List ℕ → List ℕ → Step → Type 0
-SaysStep back ahead on step =
-    SaysInterval back (turn_at step 0) × SaysInterval ahead (turn_at step 1) × SaysInterval on (turn_at step 2)
+SaysStep row_before same_row row_after step =
+    SaysInterval row_before (turn_at step 0) × SaysInterval same_row (turn_at step 1) × SaysInterval row_after (turn_at step 2)
 
 -- three words for each step
 abbrev pub SaysSteps : Words → List Step → Type 0

@@ -9,7 +9,8 @@ use Rattle.reader.specs.declared.file_index.Counts.{Counts}
 use Rattle.protocol.specs.Verbs.{verb_word}
 use Rattle.protocol.specs.Refusals.{any_refusal_number, any_refusal_words}
 use Rattle.protocol.specs.declared.reply_line.Answer.{Answer}
-use Rattle.protocol.specs.declared.reply_line.Answer.TheVariants.{Chart, Lattice, Name, Draft, Ends, File, Amend, Route, Regret, Floor, Quickest, Level, Status as StatusAnswer, Close, Picture}
+use Rattle.protocol.specs.declared.reply_line.Answer.TheVariants.{Chart, Lattice, Name, Draft, Ends, File, Amend, Route, Regret, Floor}
+use Rattle.protocol.specs.declared.reply_line.Answer.TheVariants.{Quickest, Level, Status as StatusAnswer, Close, Picture}
 use Rattle.protocol.specs.declared.rejection.Rejection.{Rejection}
 use Rattle.protocol.specs.declared.rejection.Rejection.TheVariants.{Refused, Fault, Unreadable, Unwritable, WrongState, Malformed}
 use Rattle.protocol.specs.declared.reply_line.ReplyLine.{ReplyLine}
@@ -36,7 +37,7 @@ status_text s = codes "revision " ++ decimal s.revision ++ codes " amended " ++ 
 abbrev pub answer_text : Answer → List ℕ
 answer_text (Chart counts) = codes "chart " ++ counts_text counts
 answer_text (Lattice counts) = codes "lattice " ++ counts_text counts
-answer_text (Name text place) = codes "name " ++ string_bytes text ++ codes " at " ++ decimal place
+answer_text (Name text place) = codes "name " ++ text.bytes ++ codes " at " ++ decimal place
 answer_text (Draft plan) = codes "draft " ++ decimal plan
 answer_text (Ends ends) = codes "ends " ++ decimal ends.from ++ codes " " ++ decimal ends.to
 answer_text (File revision) = codes "file revision " ++ decimal revision

@@ -1,7 +1,8 @@
 -- The word that each command begins with.
 use Rattle.std.specs.Prelude.{ℕ, List, codes}
 use Rattle.protocol.specs.declared.command.Verb.{Verb}
-use Rattle.protocol.specs.declared.command.Verb.TheVariants.{Chart, Lattice, Name, Draft, Ends, File, Amend, Route, Regret, Floor, Quickest, Level, Status, Close, Picture}
+use Rattle.protocol.specs.declared.command.Verb.TheVariants.{Chart, Lattice, Name, Draft, Ends, File, Amend, Route, Regret, Floor, Quickest}
+use Rattle.protocol.specs.declared.command.Verb.TheVariants.{Level, Status, Close, Picture}
 
 abbrev pub verb_word : Verb → List ℕ
 verb_word Chart = codes "chart"

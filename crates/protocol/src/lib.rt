@@ -1,10 +1,10 @@
 // The protocol of the program: its commands, how they are taken from the lines of a script, and the line that is replied to each.
 #![tactic(auto)]
 
-pub mod command;
-pub mod parsing;
-pub mod rejection;
-pub mod reply_line;
+mod command;
+mod parsing;
+mod rejection;
+mod reply_line;
 
 pub use command::{Command, LatticeRequest, Line, PlanCall, PlanCommand, Verb};
 pub use parsing::parse_line;

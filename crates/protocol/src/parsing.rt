@@ -1,18 +1,34 @@
 // How a line of a script is taken apart.
-ghost use Rattle.std.specs.Prelude.{◌≡◌, ◌==◌, IfOk, slice_index};
-ghost use Rattle.protocol.specs.Lines.{IsWordsOf, SaysNumber, SaysNumbers, SaysTimes, SaysInterval, SaysStep, SaysSteps, SaysChange, SaysAmendment, SaysPlaces, SaysPlanCommand, SaysLattice, SaysOfPlan, SaysCommand, SaysLine, Words};
-ghost use Rattle.protocol.specs.internal.Parses.{Parses, plus};
+ghost use Rattle.std.specs.Prelude.{◌≡◌, ◌==◌, ⊤, IfOk, OnErr, slice_index};
+ghost use Rattle.protocol.specs.Lines.{IsWordsOf, SaysNumber, SaysNumbers, SaysTimes, SaysInterval, SaysStep};
+ghost use Rattle.protocol.specs.Lines.{SaysSteps, SaysChange, SaysAmendment, SaysPlaces, SaysPlanCommand};
+ghost use Rattle.protocol.specs.Lines.{SaysLattice, SaysOfPlan, SaysCommand, SaysLine, Words};
+ghost use Rattle.protocol.specs.internal.Parses.{Reads, Parses, CollectsNumbers, CollectsList, HasListVerb, plus};
 
 use super::command::{Command, LatticeRequest, Line, PlanCall, PlanCommand, Verb};
 use chart::{Ends, Interval, Step};
 use plan::{Amendment, Change};
 use std::alloc::{AllocError, Global};
 
-// Why a line is not taken apart.
+// The words say nothing.
+#[derive(Drop)]
+struct Malformed;
+
+// Why words that may be collected into a list are not taken apart.
 #[derive(Drop)]
 enum ParseError {
     Malformed,
     NoMemory(AllocError),
+}
+
+impl From<Malformed> for ParseError {
+    ghost use Rattle.protocol.specs.declared.parsing.ParseError.TheVariants.{Malformed};
+
+    ghost from_gives = { λ _ e. e ≡ Malformed };
+
+    fn from(_malformed: Malformed) -> ParseError {
+        ParseError::Malformed
+    }
 }
 
 impl From<AllocError> for ParseError {
@@ -33,28 +49,28 @@ fn has_plus(word: &str) -> bool
 }
 
 // A number of 16 bits.
-fn parse_u16(word: &str) -> Result<u16, ParseError>
-    ensures { Parses (SaysNumber 16 word.now) result }
+fn parse_u16(word: &str) -> Result<u16, Malformed>
+    ensures { Reads (SaysNumber 16 word.now) result }
 {
     if has_plus(word) {
-        return Err(ParseError::Malformed);
+        return Err(Malformed);
     }
-    word.parse::<u16>().map_err(|_error| ParseError::Malformed)
+    word.parse::<u16>().map_err(|_error| Malformed)
 }
 
 // A number of 32 bits.
-fn parse_u32(word: &str) -> Result<u32, ParseError>
-    ensures { Parses (SaysNumber 32 word.now) result }
+fn parse_u32(word: &str) -> Result<u32, Malformed>
+    ensures { Reads (SaysNumber 32 word.now) result }
 {
     if has_plus(word) {
-        return Err(ParseError::Malformed);
+        return Err(Malformed);
     }
-    word.parse::<u32>().map_err(|_error| ParseError::Malformed)
+    word.parse::<u32>().map_err(|_error| Malformed)
 }
 
 // A list of numbers of 16 bits.
 fn parse_numbers(alloc: Global, words: &[&str]) -> Result<Vec<u16>, ParseError>
-    ensures { Parses (λ list. SaysNumbers words.now list.items) result }
+    ensures { Parses ⊤ (λ list. SaysNumbers words.now list.items) result }
 {
     let mut list = Vec::new(alloc);
     for word in words {
@@ -64,8 +80,8 @@ fn parse_numbers(alloc: Global, words: &[&str]) -> Result<Vec<u16>, ParseError>
 }
 
 // Two words for an interval.
-fn parse_times(low: &str, high: &str) -> Result<Interval, ParseError>
-    ensures { Parses (SaysTimes low.now high.now) result }
+fn parse_times(low: &str, high: &str) -> Result<Interval, Malformed>
+    ensures { Reads (SaysTimes low.now high.now) result }
 {
     Ok(Interval {
         low: parse_u32(low)?,
@@ -74,28 +90,28 @@ fn parse_times(low: &str, high: &str) -> Result<Interval, ParseError>
 }
 
 // One word for an interval: LOW-HIGH.
-fn parse_interval(word: &str) -> Result<Interval, ParseError>
-    ensures { Parses (SaysInterval word.now) result }
+fn parse_interval(word: &str) -> Result<Interval, Malformed>
+    ensures { Reads (SaysInterval word.now) result }
 {
-    let (low, high) = word.split_once('-').ok_or(ParseError::Malformed)?;
+    let (low, high) = word.split_once('-').ok_or(Malformed)?;
     parse_times(low, high)
 }
 
-// Three words for the intervals of a step.
-fn parse_step(back: &str, ahead: &str, on: &str) -> Result<Step, ParseError>
-    ensures { Parses (SaysStep back.now ahead.now on.now) result }
+// Three words for the intervals of a step, in the order of the turns −1, 0, +1.
+fn parse_step(row_before: &str, same_row: &str, row_after: &str) -> Result<Step, Malformed>
+    ensures { Reads (SaysStep row_before.now same_row.now row_after.now) result }
 {
     let turns = [
-        parse_interval(back)?,
-        parse_interval(ahead)?,
-        parse_interval(on)?,
+        parse_interval(row_before)?,
+        parse_interval(same_row)?,
+        parse_interval(row_after)?,
     ];
     Ok(Step { turns })
 }
 
 // Three words for each step.
 fn parse_steps(alloc: Global, words: &[&str]) -> Result<Vec<Step>, ParseError>
-    ensures { Parses (λ steps. SaysSteps words.now steps.items) result }
+    ensures { Parses ⊤ (λ steps. SaysSteps words.now steps.items) result }
 {
     if words.len() % 3 != 0 {
         return Err(ParseError::Malformed);
@@ -109,23 +125,23 @@ fn parse_steps(alloc: Global, words: &[&str]) -> Result<Vec<Step>, ParseError>
 }
 
 // What the words after the leg of an amendment say.
-fn parse_change(words: &[&str]) -> Result<Change, ParseError>
-    ensures { Parses (SaysChange words.now) result }
+fn parse_change(words: &[&str]) -> Result<Change, Malformed>
+    ensures { Reads (SaysChange words.now) result }
 {
     match *words {
         ["close"] => Ok(Change::Close),
         ["times", low, high] => Ok(Change::Times(parse_times(low, high)?)),
         ["restore"] => Ok(Change::Restore),
-        _ => Err(ParseError::Malformed),
+        _ => Err(Malformed),
     }
 }
 
 // The words after the number of a plan that is to be amended.
-fn parse_amendment(words: &[&str]) -> Result<Amendment, ParseError>
-    ensures { Parses (SaysAmendment words.now) result }
+fn parse_amendment(words: &[&str]) -> Result<Amendment, Malformed>
+    ensures { Reads (SaysAmendment words.now) result }
 {
     let [revision, leg, change @ ..] = words else {
-        return Err(ParseError::Malformed);
+        return Err(Malformed);
     };
     Ok(Amendment {
         revision: parse_u16(revision)?,
@@ -135,19 +151,19 @@ fn parse_amendment(words: &[&str]) -> Result<Amendment, ParseError>
 }
 
 // The number of places for a route, which need not be said.
-fn parse_places(words: &[&str]) -> Result<Option<u16>, ParseError>
-    ensures { Parses (SaysPlaces words.now) result }
+fn parse_places(words: &[&str]) -> Result<Option<u16>, Malformed>
+    ensures { Reads (SaysPlaces words.now) result }
 {
     match *words {
         [] => Ok(None),
         [places] => Ok(Some(parse_u16(places)?)),
-        _ => Err(ParseError::Malformed),
+        _ => Err(Malformed),
     }
 }
 
 // What the words after the number of a plan say.
 fn parse_plan_command(alloc: Global, verb: Verb, words: &[&str]) -> Result<PlanCommand, ParseError>
-    ensures { Parses (SaysPlanCommand verb words.now) result }
+    ensures { Parses (CollectsNumbers verb) (SaysPlanCommand verb words.now) result }
 {
     match (verb, words) {
         (Verb::Draft, []) => Ok(PlanCommand::Draft),
@@ -172,7 +188,7 @@ fn parse_plan_command(alloc: Global, verb: Verb, words: &[&str]) -> Result<PlanC
 
 // The words after the verb of a lattice.
 fn parse_lattice(alloc: Global, words: &[&str]) -> Result<LatticeRequest, ParseError>
-    ensures { Parses (SaysLattice words.now) result }
+    ensures { Parses ⊤ (SaysLattice words.now) result }
 {
     let [rows, columns, top, intervals @ ..] = words else {
         return Err(ParseError::Malformed);
@@ -191,7 +207,7 @@ fn parse_of_plan<'a>(
     verb: Verb,
     words: &[&'a str],
 ) -> Result<Command<'a>, ParseError>
-    ensures { Parses (SaysOfPlan verb words.now) result }
+    ensures { Parses (CollectsNumbers verb) (SaysOfPlan verb words.now) result }
 {
     let [plan, words @ ..] = words else {
         return Err(ParseError::Malformed);
@@ -208,7 +224,7 @@ fn parse_command<'a>(
     verb: Verb,
     words: &[&'a str],
 ) -> Result<Command<'a>, ParseError>
-    ensures { Parses (SaysCommand verb words.now) result }
+    ensures { Parses (CollectsList verb) (SaysCommand verb words.now) result }
 {
     match (verb, words) {
         (Verb::Chart, [path]) => Ok(Command::Chart { path }),
@@ -227,7 +243,8 @@ fn parse_command<'a>(
 
 // What the words of a line say.
 fn read_words<'a>(alloc: Global, words: &[&'a str]) -> Result<Line<'a>, AllocError>
-    ensures { IfOk result (SaysLine words.now) }
+    ensures says { IfOk result (SaysLine words.now) }
+    ensures no_memory { OnErr result (HasListVerb words.now) }
 {
     let [first, words @ ..] = words else {
         return Ok(Line::Comment);

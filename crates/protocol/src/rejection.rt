@@ -113,12 +113,28 @@ impl fmt::Display for Rejection<'_> {
     }
 }
 
-/// Why a command has no answer: it is rejected, or there is no memory for it, which ends the program.
+impl From<AnyRefusal> for Rejection<'_> {
+    ghost from_gives = { λ refusal why. why ≡ Refused refusal };
+
+    fn from(refusal: AnyRefusal) -> Self {
+        Self::Refused(refusal)
+    }
+}
+
+impl From<ChartFault> for Rejection<'_> {
+    ghost from_gives = { λ fault why. why ≡ Fault fault };
+
+    fn from(fault: ChartFault) -> Self {
+        Self::Fault(fault)
+    }
+}
+
+/// Why a command has no answer: it is rejected, or there is no memory for a picture, which ends the program.
 #[derive(Drop)]
 pub enum CommandError<'a> {
     /// The command changed nothing.
     Rejected(Rejection<'a>),
-    /// There is no memory for its answer.
+    /// There is no memory for the drawing.
     NoMemory(AllocError),
 }
 
@@ -127,22 +143,6 @@ impl<'a> From<Rejection<'a>> for CommandError<'a> {
 
     fn from(why: Rejection<'a>) -> CommandError<'a> {
         CommandError::Rejected(why)
-    }
-}
-
-impl From<AnyRefusal> for CommandError<'_> {
-    ghost from_gives = { λ refusal e. e ≡ Rejected (Refused refusal) };
-
-    fn from(refusal: AnyRefusal) -> Self {
-        CommandError::Rejected(Rejection::Refused(refusal))
-    }
-}
-
-impl From<ChartFault> for CommandError<'_> {
-    ghost from_gives = { λ fault e. e ≡ Rejected (Fault fault) };
-
-    fn from(fault: ChartFault) -> Self {
-        CommandError::Rejected(Rejection::Fault(fault))
     }
 }
 

@@ -5,7 +5,10 @@ ghost use Rattle.protocol.specs.ReplyTexts.{list_text, counts_text, status_text,
 
 use super::command::Verb;
 use super::rejection::{CommandError, Rejection};
+use arrayvec::{ArrayString, ArrayVec};
+use chart::limits::MAX_FIXES;
 use chart::{Ends, QuickestTotal};
+use chart_format::sizes::MAX_NAME;
 use plan::Status;
 use reader::Counts;
 use std::alloc::AllocError;
@@ -19,17 +22,29 @@ pub enum Answer {
     /// The same of the lattice that is now current.
     Lattice(Counts),
     /// The name of a fix, and the number of bytes before it in the file.
-    Name { text: String, place: usize },
+    Name {
+        text: ArrayString<MAX_NAME>,
+        place: usize,
+    },
     /// The number of the plan that is drafted.
-    Draft { plan: u16 },
+    Draft {
+        plan: u16,
+    },
     /// The ends that the draft now has.
     Ends(Ends),
     /// The revision at filing.
-    File { revision: u16 },
+    File {
+        revision: u16,
+    },
     /// The revision that the amendment made.
-    Amend { revision: u16 },
+    Amend {
+        revision: u16,
+    },
     /// The route of least regret: its regret and its legs.
-    Route { regret: u32, legs: Vec<u16> },
+    Route {
+        regret: u32,
+        legs: ArrayVec<u16, MAX_FIXES>,
+    },
     /// The regret of the list.
     Regret(u32),
     /// The floor of the list.
@@ -43,7 +58,9 @@ pub enum Answer {
     /// The plan is closed.
     Close,
     /// The drawing, which is SVG.
-    Picture { svg: String },
+    Picture {
+        svg: String,
+    },
 }
 
 // Numbers, each after a space.

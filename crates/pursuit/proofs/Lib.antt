@@ -7,3 +7,4 @@ pub mod LegLoops
 pub mod SupportedMargins
 pub mod ReachedFixes
 pub mod BoundsAtFixes
+pub mod RisingHeights

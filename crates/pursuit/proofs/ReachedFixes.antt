@@ -1,7 +1,7 @@
 -- A rival that reaches one more fix.
 use Rattle.std.proofs.Common.{◌≡◌, ℕ, ◌+◌, ◌<◌, ◌≤◌, ◌≢◌, ◌⊎◌, List, [], ◌∷◌, ◌++◌, length, get_or, set, replicate, Some, None, Option, sym, refl, ap, ◌∙◌, subst, inl, inr, ⊎_elim, arith}
 use Rattle.std.proofs.lemmas.Bool.{cases_eq, cases_lt}
-use Rattle.std.proofs.lemmas.List.{get_or-set_other, get_or-set_same, get_or-replicate, length-replicate, get_or_past, set_past}
+use Rattle.std.proofs.lemmas.List.{get_or-set_other, get_or-set_same, set_past}
 use Rattle.chart.specs.declared.leg.Leg.{Leg}
 use Rattle.chart.specs.Legs.{leg_at}
 use Rattle.chart.specs.Regret.{Query}
@@ -11,13 +11,10 @@ use Rattle.pursuit.specs.Rivals.{IsRivalLeg}
 use Rattle.pursuit.specs.Pursuits.{RivalReaches}
 use Rattle.pursuit.specs.internal.Margins.{AreReached}
 use Rattle.pursuit.proofs.Paths.{path_join}
+use Rattle.pursuit.proofs.ReadLegs.{all_equal}
 
-cases_ne : (x y : ℕ) → (x ≢ y) ⊎ (x ≡ y)
+pub cases_ne : (x y : ℕ) → (x ≢ y) ⊎ (x ≡ y)
 cases_ne x y = ⊎_elim inr inl (cases_eq x y)
-
--- in a list of `None` no time is found
-unset : (n b : ℕ) → get_or (replicate n (let x : Option ℕ = None in x)) b None ≡ None
-unset n b = ⊎_elim (λ lt. get_or-replicate n b None None lt) (λ past. get_or_past (replicate n None) b None (let e = length-replicate n (let x : Option ℕ = None in x) in omega arith)) (cases_lt b n)
 
 module _ (t : Query) (height w : ℕ → ℕ) (h : ℕ) where
   -- by one leg more
@@ -54,7 +51,7 @@ module _ (t : Query) (height w : ℕ → ℕ) (h : ℕ) where
 
   -- before any leg, the departure alone is reached
   pub all_start : (n : ℕ) → AreReached t height w h (set (replicate n None) t.source (Some 0))
-  all_start n = all_on (replicate n None) (λ b d e. absurd (none_some d (sym (unset n b) ∙ e))) t.source 0 reaches_start
+  all_start n = all_on (replicate n None) (λ b d e. absurd (none_some d (sym (all_equal None n b) ∙ e))) t.source 0 reaches_start
 
   -- a leg is taken
   pub all_taken : (times : List (Option ℕ)) → AreReached t height w h times → (k : ℕ) (leg : Leg) → leg ≡ leg_at t.legs k → IsRivalLeg t k → height leg.from < h → (d x : ℕ) → Some d ≡ get_or times leg.from None → x ≡ d + w k → AreReached t height w h (set times leg.to (Some x))

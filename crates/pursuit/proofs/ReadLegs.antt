@@ -1,7 +1,8 @@
 -- What a read of one leg, one height or one margin says.
-use Rattle.std.proofs.Common.{◌≡◌, ℕ, ◌+◌, ◌*◌, ◌<◌, ◌≤◌, Bool, true, false, IsTrue, ◌↔◌, cond, List, get_or, Some, None, Option, MatchOption, sym, refl, ap, ◌∙◌, subst}
+use Rattle.std.proofs.Common.{◌≡◌, ℕ, ◌+◌, ◌*◌, ◌<◌, ◌≤◌, Bool, true, false, IsTrue, ◌↔◌, cond, List, get_or, Some, None, Option, MatchOption, replicate, sym, refl, ap, ◌∙◌, subst, ⊎_elim, arith}
 use Rattle.std.specs.Bool.{then_some}
-use Rattle.std.proofs.lemmas.Bool.{lt-ltb, le-ltb}
+use Rattle.std.proofs.lemmas.Bool.{cases_lt, lt-ltb, le-ltb}
+use Rattle.std.proofs.lemmas.List.{get_or-replicate, length-replicate, get_or_past}
 use Rattle.std.proofs.Math.Dec.{ltb}
 use Rattle.chart.specs.declared.leg.Leg.{Leg}
 use Rattle.chart.specs.Legs.{leg_get}
@@ -10,6 +11,10 @@ use Rattle.chart.specs.Regret.{Query}
 use Rattle.chart.proofs.LegsByNumber.{leg_get_some, leg_get_not_none}
 use Rattle.pursuit.specs.Answers.{margin_at}
 use Rattle.pursuit.specs.internal.Margins.{IsServingLeg}
+
+-- in a list of one value that value is found at every place, past its end too
+pub all_equal : {X : Type 0} (x : X) (n i : ℕ) → get_or (replicate n x) i x ≡ x
+all_equal x n i = ⊎_elim (λ (lt : i < n). get_or-replicate n i x x lt) (λ (past : n ≤ i). get_or_past (replicate n x) i x (let e = length-replicate n x in omega arith)) (cases_lt i n)
 
 module _ (fixes : ℕ) (margins : List ℕ) (a b : ℕ) where
   pub margin_there : a < fixes → b < fixes → get_or margins (PURSUIT_FIXES * a + b) 0 ≡ margin_at fixes margins a b

@@ -1,12 +1,13 @@
 -- Margins that the next move keeps: none, smaller ones, and all of a table.
-use Rattle.std.proofs.Common.{◌≡◌, ℕ, ◌<◌, ◌≤◌, true, List, sym, ⊎_elim, arith}
+use Rattle.std.proofs.Common.{◌≡◌, ℕ, ◌+◌, ◌*◌, ◌<◌, ◌≤◌, true, List, replicate, sym, ◌∙◌, ⊎_elim, arith}
 use Rattle.std.proofs.Math.Dec.{leb}
 use Rattle.std.proofs.lemmas.Bool.{cases_lt, leb-true}
 use Rattle.chart.specs.Regret.{Query}
 use Rattle.pursuit.specs.Pursuits.{IsSupported, EveryLegRises, IsMarginTable}
 use Rattle.pursuit.specs.Answers.{margin_at}
+use Rattle.pursuit.specs.declared.margins.TheConstants.{PURSUIT_FIXES}
 use Rattle.pursuit.specs.internal.Margins.{IsEachSupported}
-use Rattle.pursuit.proofs.ReadLegs.{margin_past_route, margin_past_rival}
+use Rattle.pursuit.proofs.ReadLegs.{all_equal, margin_there, margin_past_route, margin_past_rival}
 use Rattle.pursuit.proofs.LegLoops.{route_less, countermove_less}
 
 module _ (t : Query) (height : ℕ → ℕ) (offset : ℕ) (margin : ℕ → ℕ → ℕ) (a b : ℕ) where
@@ -47,3 +48,15 @@ module _ (t : Query) (height : ℕ → ℕ) (offset fixes : ℕ) (margins : List
         (λ (p : fixes ≤ a). none_supports t height offset (margin_at fixes margins) a b _ (sym (margin_past_route fixes margins a b p)))
         (cases_lt a fixes);
   }
+
+-- a table of zeros, which has no margin
+module _ (fixes n : ℕ) where
+  no_margin : (a b : ℕ) → ◌≡◌ {A = ℕ} (margin_at fixes (replicate n 0) a b) 0
+  no_margin a b =
+      ⊎_elim
+      (λ (p : a < fixes). ⊎_elim (λ (q : b < fixes). sym (margin_there fixes (replicate n 0) a b p q) ∙ all_equal 0 n (PURSUIT_FIXES * a + b)) (λ (q : fixes ≤ b). sym (margin_past_rival fixes (replicate n 0) a b p q)) (cases_lt b fixes))
+      (λ (p : fixes ≤ a). sym (margin_past_route fixes (replicate n 0) a b p))
+      (cases_lt a fixes)
+
+  pub zeros_supported : (t : Query) (height : ℕ → ℕ) (offset : ℕ) → IsEachSupported fixes t height offset (margin_at fixes (replicate n 0))
+  zeros_supported t height offset a small b little = none_supports t height offset (margin_at fixes (replicate n 0)) a b _ (no_margin a b)

@@ -28,6 +28,10 @@ unfoldable pub margin_at : ℕ → List ℕ → ℕ → ℕ → ℕ
 margin_at fixes margins a b =
     cond (ltb a fixes) (cond (ltb b fixes) (slice_index_or margins (PURSUIT_FIXES * a + b) 0) 0) 0
 
+-- how many fixes the margins of a pursuit are of: it has none past them
+abbrev pub fixes_of_margins : Pursuit → ℕ
+fixes_of_margins p = p.fixes
+
 -- the pursuit has no margin yet
 abbrev pub HasNoMargin : Pursuit → Type 0
 HasNoMargin p = (a b : ℕ) → margin_at p.fixes p.margins a b ≡ 0

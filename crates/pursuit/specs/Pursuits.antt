@@ -63,6 +63,10 @@ pub record IsSupported (t : Query) (height : ℕ → ℕ) (offset : ℕ) (margin
 abbrev pub EveryLegRises : Query → (ℕ → ℕ) → Type 0
 EveryLegRises t height = (k : ℕ) → IsRivalLeg t k → height (leg_at t.legs k).from < height (leg_at t.legs k).to
 
+-- for some heights every leg does
+abbrev pub HasRisingHeights : Query → Type 0
+HasRisingHeights t = (height : ℕ → ℕ) × EveryLegRises t height
+
 -- a table of margins, each of which the next move keeps
 pub record IsMarginTable (t : Query) (height : ℕ → ℕ) (offset : ℕ) (margin : ℕ → ℕ → ℕ) : Type 0 where
   pub rises : EveryLegRises t height

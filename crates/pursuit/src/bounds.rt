@@ -44,8 +44,8 @@ fn bound_at(pursuit: &Pursuit, chain: &ChainState<'_>, times: &[Option<u32>], b:
 }
 
 /// The pursuit bound of a chain between two ends, in seconds: no route that begins with the chain has less regret. It is 0
-/// where the pursuit has no margin for it, and the call is never refused. A search that goes deep calls it at each step, so its frame is kept
-/// out of the search's.
+/// where the pursuit has no margin for it, and the call is never refused. A search that goes deep calls it at each step, so
+/// its frame is kept out of the search's.
 #[inline(never)]
 pub fn bound(snapshot: &Snapshot, ends: Ends, pursuit: &Pursuit, chain: &ChainState<'_>) -> u32
     requires { IsPursuit (query_on snapshot.now ends) pursuit.now }

@@ -1,7 +1,10 @@
 // A height for each fix, so that every leg leads to a higher fix.
-ghost use Rattle.std.specs.Prelude.{◌≡◌, ◌↔◌, IsTrue};
-ghost use Rattle.pursuit.specs.Pursuits.{EveryLegRises};
+ghost use Rattle.std.specs.Prelude.{◌≡◌, ◌↔◌, IsTrue, length};
+ghost use Rattle.chart.specs.Limits.{max_fixes};
+ghost use Rattle.search.specs.Snapshots.{snapshot_fixes, snapshot_legs};
+ghost use Rattle.pursuit.specs.Pursuits.{EveryLegRises, HasRisingHeights};
 ghost use Rattle.pursuit.specs.Answers.{height_at, query_on};
+ghost use Rattle.pursuit.specs.internal.Heights.{IsLiftByLeg, IsLiftByLegs};
 
 use super::legs::rival_leg;
 use super::margins::PURSUIT_FIXES;
@@ -16,34 +19,43 @@ pub(crate) fn height_of(heights: &[u16], fix: u16) -> u16
     heights.get(fix as usize).copied().unwrap_or(0)
 }
 
-// Lifts each fix that a leg leads to above the fix that the leg leaves, and says whether any was lifted. No fix is lifted
-// higher than there are fixes.
-fn lift(snapshot: &Snapshot, ends: Ends, heights: &mut [u16]) -> bool {
+// Lifts the fix that the leg `k` leads to above the fix that it leaves, and says whether it did. No fix is lifted higher than
+// there are fixes.
+fn lift_by(snapshot: &Snapshot, ends: Ends, heights: &mut [u16], k: u16) -> bool
+    requires { length heights.old ≡ max_fixes }
+    ensures { IsLiftByLeg (query_on snapshot.now ends) (snapshot_fixes snapshot.now) k heights.old heights.new result }
+{
+    let Some(leg) = rival_leg(snapshot, ends, k) else {
+        return false;
+    };
+    let from = height_of(heights, leg.from);
+    if height_of(heights, leg.to) > from || from >= snapshot.n() {
+        return false;
+    }
+    heights[leg.to as usize] = from + 1;
+    true
+}
+
+// Lifts fixes by each leg, and says whether any was lifted.
+fn lift(snapshot: &Snapshot, ends: Ends, heights: &mut [u16]) -> bool
+    requires { length heights.old ≡ max_fixes }
+    ensures { IsLiftByLegs (query_on snapshot.now ends) (snapshot_fixes snapshot.now) (length (snapshot_legs snapshot.now))
+        heights.old heights.new result }
+{
     let mut lifted = false;
     for k in 0..snapshot.m() {
-        let Some(leg) = rival_leg(snapshot, ends, k) else {
-            continue;
-        };
-        let from = height_of(heights, leg.from);
-        if height_of(heights, leg.to) > from || from >= snapshot.n() {
-            continue;
-        }
-        if let Some(height) = heights.get_mut(leg.to as usize) {
-            *height = from + 1;
-            lifted = true;
-        }
+        lifted |= lift_by(snapshot, ends, heights, k);
     }
     lifted
 }
 
-// Sets heights that fit the chart if any do. Nothing is promised of them, since they are checked.
-pub(crate) fn find_heights(snapshot: &Snapshot, ends: Ends, heights: &mut [u16]) {
-    heights.fill(0);
-    for _ in 0..snapshot.n() {
-        if !lift(snapshot, ends, heights) {
-            return;
-        }
-    }
+// Heights by which every leg leads to a higher fix, if there are any.
+pub(crate) fn find_heights(snapshot: &Snapshot, ends: Ends) -> [u16; PURSUIT_FIXES]
+    ensures { HasRisingHeights (query_on snapshot.now ends) → EveryLegRises (query_on snapshot.now ends) (height_at result) }
+{
+    let mut heights = [0; PURSUIT_FIXES];
+    while lift(snapshot, ends, &mut heights) {}
+    heights
 }
 
 // Whether every leg leads to a higher fix.

@@ -20,8 +20,10 @@ impl<'a> MarginTable<'a> {
     ghost use Rattle.std.specs.Prelude.{◌≡◌};
     ghost use Rattle.chart.specs.Legs.{leg_at};
     ghost use Rattle.search.specs.Snapshots.{snapshot_legs};
-    ghost use Rattle.pursuit.specs.Pursuits.{RouteKeeps, RouteMoves, RivalKeeps, RivalMoves, CountermoveKeeps, HasCountermove, BothMove};
-    ghost use Rattle.pursuit.specs.internal.Margins.{table_query, table_margin, IsSupportedIn, IsRowSupportedIn, IsEachSupportedIn};
+    ghost use Rattle.pursuit.specs.Pursuits.{RouteKeeps, RouteMoves, RivalKeeps, RivalMoves};
+    ghost use Rattle.pursuit.specs.Pursuits.{CountermoveKeeps, HasCountermove, BothMove};
+    ghost use Rattle.pursuit.specs.internal.Margins.{table_query, table_margin, IsSupportedIn};
+    ghost use Rattle.pursuit.specs.internal.Margins.{IsRowSupportedIn, IsEachSupportedIn};
 
     // The margin of the route at `a` and the rival at `b`.
     fn margin(&self, a: u16, b: u16) -> u32

@@ -2,10 +2,10 @@
 ghost use Rattle.std.specs.Prelude.{◌≡◌};
 ghost use Rattle.pursuit.specs.Answers.{margin_at};
 
-use chart::limits::MAX_SECONDS;
+use chart::limits::{MAX_FIXES, MAX_SECONDS};
 
-// How many fixes a table has room for. A chart of more fixes has no pursuit.
-pub(crate) const PURSUIT_FIXES: usize = 200;
+// How many fixes a table has room for: as many as a chart has at most.
+pub(crate) const PURSUIT_FIXES: usize = MAX_FIXES;
 
 // A place for each two fixes.
 pub(crate) const MAX_MARGINS: usize = PURSUIT_FIXES * PURSUIT_FIXES;

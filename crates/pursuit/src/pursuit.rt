@@ -1,5 +1,4 @@
 // A pursuit on a chart between two ends, made once for many chains.
-
 use super::filling::Filling;
 use super::heights::{every_leg_rises, falling_order, find_heights};
 use super::margin_table::MarginTable;
@@ -21,8 +20,10 @@ pub struct Pursuit {
 }
 
 impl Pursuit {
-    ghost use Rattle.std.specs.Prelude.{IsTrue};
-    ghost use Rattle.pursuit.specs.Answers.{IsPursuit, HasNoMargin, query_on};
+    ghost use Rattle.std.specs.Prelude.{◌≡◌, ◌↔◌, IsTrue};
+    ghost use Rattle.search.specs.Snapshots.{snapshot_fixes};
+    ghost use Rattle.pursuit.specs.Pursuits.{HasRisingHeights};
+    ghost use Rattle.pursuit.specs.Answers.{IsPursuit, HasNoMargin, fixes_of_margins, query_on};
 
     /// A pursuit without margins yet, for `fill`. It takes no memory but its own.
     pub fn new() -> Pursuit
@@ -36,17 +37,16 @@ impl Pursuit {
         }
     }
 
-    /// Fills the pursuit for a chart between two ends, and returns whether it serves them. It does not where for no heights
-    /// every leg leads to a higher fix, nor where the chart has more than 200 fixes: nothing is then promised of it, and it may
-    /// be filled again. That it serves all others is tested, and not promised. What it held before is lost in every case.
+    /// Fills the pursuit for a chart between two ends, and returns whether it serves them: it does just where for some heights
+    /// every leg that a rival may have leads to a higher fix. Where it does not, nothing is promised of the pursuit, and it may
+    /// be filled again. How high its margins are is tested, and not promised. What it held before is lost in every case.
     pub fn fill(&mut self, snapshot: &Snapshot, ends: Ends) -> bool
-        ensures { IsTrue result → IsPursuit (query_on snapshot.now ends) self.new }
+        ensures serves { IsTrue result → IsPursuit (query_on snapshot.now ends) self.new }
+        ensures every_fix { IsTrue result → fixes_of_margins self.new ≡ snapshot_fixes snapshot.now }
+        ensures exactly_where_legs_rise { IsTrue result ↔ HasRisingHeights (query_on snapshot.now ends) }
     {
-        if snapshot.n() as usize > PURSUIT_FIXES {
-            return false;
-        }
         self.fixes = snapshot.n();
-        find_heights(snapshot, ends, &mut self.heights);
+        self.heights = find_heights(snapshot, ends);
         if !every_leg_rises(snapshot, ends, &self.heights) {
             return false;
         }
@@ -66,6 +66,10 @@ impl Pursuit {
             heights: &self.heights,
             margins: &self.margins,
         };
-        table.is_each_supported()
+        // What is filled in passes the check, which is tested and not proved.
+        if !table.is_each_supported() {
+            self.margins.fill(0);
+        }
+        true
     }
 }

@@ -1,5 +1,5 @@
 // Where reading stands in a file: one record after the other, each with all its checks in their order, and then a whole file.
-ghost use Rattle.std.specs.Prelude.{◌≡◌, ◌+◌, ◌≤◌, [], length, MatchResult};
+ghost use Rattle.std.specs.Prelude.{◌≡◌, ◌+◌, [], length, MatchResult};
 ghost use Rattle.chart_format.specs.Format.{chart_record_length, leg_record_length, mark_length, name_offset};
 ghost use Rattle.chart_format.specs.Reports.{chart_report};
 ghost use Rattle.chart_format.specs.Checks.{AreBytes, Pass, byte, body, fixes_in, legs_in};
@@ -157,7 +157,7 @@ impl Cursor {
     }
 
     // Checks all records from the beginning of the file, where there is room for so many legs.
-    pub(crate) fn check_file(&mut self, file: &[u8], room: usize) -> Result<CheckedFile, ChartFault>
+    fn check_file(&mut self, file: &[u8], room: usize) -> Result<CheckedFile, ChartFault>
         requires { AreBytes file.now }
         ensures { MatchResult result
             (λ f. IsCheckedFile file.now room f.starts.items f.counts.fixes f.counts.legs f.base
@@ -175,6 +175,7 @@ impl Cursor {
             base,
         })
     }
+
     // Reads a file from its beginning, and puts its legs into the first places of memory. Later places hold what they held, and all
     // of them where the file is refused.
     pub(crate) fn read_file(

@@ -18,7 +18,9 @@ use chart_format::ChartFault;
 /// How many fixes and legs a chart has.
 #[derive(Clone, Copy, Debug, PartialEq, Eq)]
 pub struct Counts {
+    /// The number of fixes.
     pub fixes: u16,
+    /// The number of legs.
     pub legs: u16,
 }
 

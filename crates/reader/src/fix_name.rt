@@ -6,10 +6,12 @@ use chart::Refusal;
 use std::error::Error;
 use std::fmt;
 
-/// The name of a fix: that part of the file itself, and its place there, in bytes from the beginning of the file.
+/// The name of a fix.
 #[derive(Clone, Copy, Debug, PartialEq, Eq)]
 pub struct FixName<'a> {
+    /// The bytes of the name: that part of the file itself.
     pub text: &'a [u8],
+    /// Where they begin in the file, in bytes from its beginning.
     pub place: usize,
 }
 

@@ -1,5 +1,5 @@
 // A reader of one chart file: how the file is read, and what an accepted file is asked.
-ghost use Rattle.std.specs.Prelude.{◌≡◌, ◌≤◌, [], map, length, IsOk, IfOk, MatchResult};
+ghost use Rattle.std.specs.Prelude.{◌≡◌, ◌≤◌, [], map, length, IsOk, MatchResult};
 ghost use Rattle.chart.specs.Limits.{max_fixes};
 ghost use Rattle.chart_format.specs.Format.{AreFixNames};
 ghost use Rattle.chart_format.specs.Checks.{AreBytes};

@@ -8,10 +8,10 @@ use runs::run::run;
 use runs::{Call, Reply, RunRefusal, RunRejected};
 use std::alloc::{AllocError, Global};
 
-/// What a call of a plan says, with the number of a refusal in place of the refusal. A route call says the number of legs and the regret;
-/// what it puts into the memory is compared apart.
+// What a call of a plan says, with the number of a refusal in place of the refusal. A route call says the number of legs and the regret;
+// what it puts into the memory is compared apart.
 #[derive(Clone, Copy, PartialEq, Eq)]
-pub enum Outcome {
+enum Outcome {
     Amend(Result<u16, u8>),
     Route(Result<(usize, u32), u8>),
     Regret(Result<u32, u8>),
@@ -26,8 +26,8 @@ fn totals(total: QuickestTotal) -> (u32, usize) {
 }
 
 impl Outcome {
-    /// What a reply says.
-    pub fn of(reply: &Reply) -> Outcome {
+    // What a reply says.
+    fn of(reply: &Reply) -> Outcome {
         match *reply {
             Reply::Amend(answer) => Outcome::Amend(answer.map_err(|refusal| refusal.number())),
             Reply::Route(answer) => Outcome::Route(

@@ -95,8 +95,8 @@ impl Ledger {
         &self.legs
     }
 
-    /// Whether the leg of a number stands amended.
-    pub fn is_amended(&self, k: u16) -> bool {
+    // Whether the leg of a number stands amended.
+    fn is_amended(&self, k: u16) -> bool {
         self.amended.contains(&k)
     }
 

@@ -2,8 +2,8 @@
 // a run, by a listing of the ledger's legs.
 #![tactic(auto)]
 
-pub mod batch;
-pub mod ledger;
+mod batch;
+mod ledger;
 
-pub use batch::{Batch, Outcome};
+pub use batch::Batch;
 pub use ledger::{Ledger, has_legs};

@@ -1,6 +1,7 @@
 // The regret of a route. In the choice of times that is worst for it, its own legs take their high time and all others
 // their low.
-ghost use Rattle.chart.specs.Regret.{query, WorstChoiceGivesRegret, RegretIsNeverExceeded, EveryRouteHasARegret, RegretIsUnique};
+ghost use Rattle.chart.specs.Regret.{query, WorstChoiceGivesRegret, RegretIsNeverExceeded};
+ghost use Rattle.chart.specs.Regret.{EveryRouteHasARegret, RegretIsUnique};
 ghost use Rattle.search.specs.Snapshots.{snapshot_legs};
 ghost use Rattle.regret.specs.Answers.{regret_outcome, IsRegretOutcome};
 

@@ -44,8 +44,8 @@ fn fits(alloc: Global, listing: &Listing, chain: &[u16], bound: u32) -> Result<b
     })
 }
 
-// How many chains have a pursuit bound, which fits each of them: those that do not meet the destination, on a chart that has a
-// pursuit.
+/// How many chains have a pursuit bound, which fits each of them: those that do not meet the destination, on a chart that has a
+/// pursuit.
 pub fn count_bounds<C: Chart>(
     alloc: Global,
     chart: &C,

@@ -351,6 +351,7 @@ impl Case {
     }
 }
 
+/// Compares the calls on each of the charts with its listing.
 pub fn show_cases(rt: &HostRuntime) -> anyhow::Result<()> {
     for case in &CASES {
         case.show(rt)?;

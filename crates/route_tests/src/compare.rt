@@ -91,8 +91,8 @@ fn ways_agree(all: &Listing, worst: &Listing) -> bool {
         .all(|route| all.regret(route) == worst.regret(route))
 }
 
-// The listing of a chart with these legs between two ends, with which the calls agree, and how many of its chains have a pursuit
-// bound.
+/// The listing of a chart with these legs between two ends, with which the calls agree, and how many of its chains have a pursuit
+/// bound.
 pub fn compare<C: Chart>(
     alloc: Global,
     chart: &C,
@@ -113,7 +113,7 @@ pub fn compare<C: Chart>(
     Ok((listing, bounded))
 }
 
-// How many charts there were, how many ends with a route and without, and how many chains with a pursuit bound.
+/// How many charts there were, how many ends with a route and without, and how many chains with a pursuit bound.
 #[derive(Clone, Copy)]
 pub struct Tally {
     charts: usize,
@@ -123,6 +123,7 @@ pub struct Tally {
 }
 
 impl Tally {
+    /// No chart yet.
     pub fn new() -> Tally {
         Tally {
             charts: 0,
@@ -141,7 +142,7 @@ impl Tally {
         *count = count.saturating_add(1);
     }
 
-    // Compares the calls on one more chart with its listings.
+    /// Compares the calls on one more chart with its listings.
     pub fn compare_all<C: Chart>(
         &mut self,
         alloc: Global,

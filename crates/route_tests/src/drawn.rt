@@ -1,4 +1,5 @@
-// Times that are drawn, and charts that are drawn in layers, between every two fixes. A leg leads from a layer to a later one, but for those that lead back.
+// Times that are drawn, and charts that are drawn in layers, between every two fixes. A leg leads from a layer to a later one,
+// but for those that lead back.
 use super::compare::Tally;
 use anyhow::Context;
 use chart::{Ends, Interval, Row, Standing, Table};
@@ -6,7 +7,7 @@ use listing::DrawnNumbers;
 use std::alloc::{AllocError, Global};
 use std::cmp::Ordering;
 
-// Times of which many are equal, one interval everywhere, times near each other, and times within all limits.
+/// Times of which many are equal, one interval everywhere, times near each other, and times within all limits.
 #[derive(Clone, Copy)]
 pub enum Times {
     Ties,
@@ -26,6 +27,7 @@ fn pair(numbers: &mut DrawnNumbers, n: u32) -> Interval {
 }
 
 impl Times {
+    /// Draws an interval.
     pub fn draw(self, numbers: &mut DrawnNumbers) -> Interval {
         match self {
             Times::Ties => pair(numbers, 3),
@@ -209,6 +211,7 @@ impl Group {
     }
 }
 
+/// Compares the calls on the charts of each group with their listings.
 pub fn show_drawn(rt: &HostRuntime) -> anyhow::Result<()> {
     let numbers = &mut DrawnNumbers::new(1);
     for group in GROUPS {

@@ -32,10 +32,10 @@ fn drawn_steps(
 ) -> anyhow::Result<Vec<Turns>> {
     let mut steps = Vec::new(alloc);
     for _ in 1..columns {
-        let back = times.draw(numbers);
-        let on = times.draw(numbers);
-        let ahead = times.draw(numbers);
-        steps.push([back, on, ahead])?;
+        let row_before = times.draw(numbers);
+        let same_row = times.draw(numbers);
+        let row_after = times.draw(numbers);
+        steps.push([row_before, same_row, row_after])?;
     }
     Ok(steps)
 }
@@ -79,6 +79,7 @@ fn show_kind(
     Ok(())
 }
 
+/// Compares the calls on lattices with times of each kind with their listings.
 pub fn show_lattices(rt: &HostRuntime) -> anyhow::Result<()> {
     let numbers = &mut DrawnNumbers::new(2);
     show_kind(rt, numbers, "one interval everywhere", Times::Same, 1)?;

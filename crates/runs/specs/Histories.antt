@@ -23,7 +23,8 @@ ledger_after_calls own l (call ∷ calls) = ledger_after_calls own (ledger_after
 
 -- a history in two parts is the history of both
 abbrev pub HistoriesJoin : Type 0
-HistoriesJoin = (own : List Leg) (l : Ledger) (first more : List Call) → ledger_after_calls own l (first ++ more) ≡ ledger_after_calls own (ledger_after_calls own l first) more
+HistoriesJoin = (own : List Leg) (l : Ledger) (first more : List Call)
+    → ledger_after_calls own l (first ++ more) ≡ ledger_after_calls own (ledger_after_calls own l first) more
 
 -- the amendment, where no ground applies to it
 abbrev pub granted_where : List AmendRefusal → Amendment → List Amendment

@@ -37,7 +37,8 @@ run_words ShortMemory = codes "fewer places of memory than the route calls take"
 
 -- Every call has its reply on the ledger that the calls before it have come to, with its own part of the memory. Replies
 -- beyond the calls, and places beyond those that the route calls take, are what they were.
-pub record AreRepliesTo (n : ℕ) (own : List Leg) (l : Ledger) (calls : List Call) (replies replies' : List Reply) (memory memory' : List ℕ) : Type 0 where
+pub record AreRepliesTo (n : ℕ) (own : List Leg) (l : Ledger) (calls : List Call) (replies replies' : List Reply)
+    (memory memory' : List ℕ) : Type 0 where
   pub is_reply : (i : ℕ) (c : Call) (r : Reply) → slice_get calls i ≡ Some c → slice_get replies' i ≡ Some r
       → IsReplyTo n (ledger_after_calls own l (take i calls)) c r (part_of (take i calls) c memory) (part_of (take i calls) c memory')
   pub as_many : length replies' ≡ length replies
@@ -53,7 +54,8 @@ grants _ = false
 -- A run of calls on a plan that has the chart c and stands at the ledger l leaves the plan plan': every call has its reply,
 -- the plan stands at the ledger that the calls come to, its revision has risen by the amendments that were granted, and its chart is what
 -- it was.
-pub record IsLawfulRun {C : Type 0} (fixes : C → ℕ) (legs : C → List Leg) (c : C) (l : Ledger) (calls : List Call) (replies replies' : List Reply) (memory memory' : List ℕ) (plan' : Filed C) : Type 0 where
+pub record IsLawfulRun {C : Type 0} (fixes : C → ℕ) (legs : C → List Leg) (c : C) (l : Ledger) (calls : List Call)
+    (replies replies' : List Reply) (memory memory' : List ℕ) (plan' : Filed C) : Type 0 where
   pub fits : HasRoomFor calls (length replies) (length memory)
   pub replied : AreRepliesTo (fixes c) (legs c) l calls replies replies' memory memory'
   pub ledger : ledger_of legs plan' ≡ ledger_after_calls (legs c) l calls
@@ -73,5 +75,7 @@ pub record IsRunFromFiling {C : Type 0} (legs : C → List Leg) (c : C) (ends : 
 abbrev pub RunsHaveOneOutcome : Type 0
 RunsHaveOneOutcome =
     (n : ℕ) (own : List Leg) (l : Ledger) (calls : List Call) (replies replies' replies'' : List Reply) (memory memory' memory'' : List ℕ)
-    → length calls ≤ length replies → AreRepliesTo n own l calls replies replies' memory memory' → AreRepliesTo n own l calls replies replies'' memory memory''
-    → ((i : ℕ) (r r' : Reply) → i < length calls → slice_get replies' i ≡ Some r → slice_get replies'' i ≡ Some r' → (question_of_reply r ≡ question_of_reply r') × (outcome_of r ≡ outcome_of r')) × (memory' ≡ memory'')
+    → length calls ≤ length replies → AreRepliesTo n own l calls replies replies' memory memory'
+    → AreRepliesTo n own l calls replies replies'' memory memory''
+    → ((i : ℕ) (r r' : Reply) → i < length calls → slice_get replies' i ≡ Some r → slice_get replies'' i ≡ Some r'
+    → (question_of_reply r ≡ question_of_reply r') × (outcome_of r ≡ outcome_of r')) × (memory' ≡ memory'')

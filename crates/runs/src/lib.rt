@@ -1,9 +1,9 @@
 // Runs of calls on a filed plan, and the law that every run keeps.
 #![tactic(auto)]
 
-pub mod call;
+mod call;
 pub mod file_and_run;
-pub mod reply;
+mod reply;
 pub mod run;
 
 pub use call::Call;

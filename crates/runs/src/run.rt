@@ -103,7 +103,8 @@ pub fn run<C: Chart>(
     ensures every_history_keeps_the_ledger { HistoriesKeepTheLedger }
     ensures every_route_has_a_regret { EveryRouteHasARegret }
     ensures one_outcome { RunsHaveOneOutcome }
-    ensures refused { OnErr result ((plan.new ≡ plan.old) × (replies.new ≡ replies.old) × (memory.new ≡ memory.old)) }
+    ensures refused { OnErr result
+        ((plan.new ≡ plan.old) × (replies.new ≡ replies.old) × (memory.new ≡ memory.old)) }
 {
     check_room(calls, replies.len(), memory.len())?;
     let mut used = 0;

@@ -1,4 +1,5 @@
--- The state of one fix changed: which fixes are labelled and which are settled then, and how many are settled. And a total is as good as itself.
+-- The state of one fix changed: which fixes are labelled and which are settled then, and how many are settled. And a total is
+-- as good as itself.
 use Rattle.std.proofs.Common.{◌≡◌, ℕ, ◌+◌, ◌<◌, cond, List, length, set, sym, refl, ◌∙◌, subst, ⊎_elim, arith, length-set}
 use Rattle.std.proofs.lemmas.List.{get_or-set_same, get_or-set_other, get_or_past}
 use Rattle.std.proofs.lemmas.List.Sums.{sum_by-set, count_by-le-length}

@@ -38,7 +38,8 @@ impl<'a, K: Kind> Search<'a, K> {
     ghost use Rattle.chart.specs.Best.{BestTotal};
     ghost use Rattle.search.specs.Snapshots.{snapshot_fixes, snapshot_legs};
     ghost use Rattle.search.specs.internal.Labels.{IsBetterOf, PicksBestReached, IsSettled, IsBestReached};
-    ghost use Rattle.search.specs.internal.Invariants.{AreTwoFixes, NoneIsReached, IsLegOf, KeepsProblem, HasSearchInvariant, HasRelaxingInvariant};
+    ghost use Rattle.search.specs.internal.Invariants.{AreTwoFixes, NoneIsReached, IsLegOf, KeepsProblem};
+    ghost use Rattle.search.specs.internal.Invariants.{HasSearchInvariant, HasRelaxingInvariant};
     ghost use Rattle.search.specs.internal.Invariants.{Advances, Settles, IsImproved};
 
     // The search between two fixes, over labels that are all the start and states that are all unreached.
@@ -140,8 +141,8 @@ impl<'a, K: Kind> Search<'a, K> {
         requires pick { IsBestReached (K.rule self.old.kind.now) self.old.label.now self.old.state.now
             (snapshot_fixes self.old.snapshot.now) u }
         ensures same { KeepsProblem self.old.snapshot.now self.old.kind.now self.new.snapshot.now self.new.kind.now }
-        ensures settles { Settles (K.rule self.old.kind.now) self.old.snapshot.now u self.old.label.now self.old.state.now
-            self.new.label.now self.new.state.now }
+        ensures settles { Settles (K.rule self.old.kind.now) self.old.snapshot.now u
+            self.old.label.now self.old.state.now self.new.label.now self.new.state.now }
     {
         self.state[u] = FixState::Settled;
         self.relax_legs(u as u16);

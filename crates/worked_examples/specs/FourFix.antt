@@ -58,7 +58,8 @@ pub record FourFixClosed (rows : List Row) : Type 0 where
   pub without_leg_4 : IsLeastRegret (from_first_to_last (closed rows 4)) (0 ∷ 1 ∷ []) 450
   pub tie_without_leg_4 : HasRegret (from_first_to_last (closed rows 4)) (2 ∷ 3 ∷ []) 450
   pub without_legs_1_and_3 : (q : List ℕ) → IsRoute (from_first_to_last (closed (closed rows 1) 3)) q → ⊥
-  pub refused_without_legs_1_and_3 : (memory : List ℕ) → 4 ≤ length memory + 1 → IsRouteOutcome (from_first_to_last (closed (closed rows 1) 3)) 4 memory (refused 25) memory
+  pub refused_without_legs_1_and_3 : (memory : List ℕ) → 4 ≤ length memory + 1
+      → IsRouteOutcome (from_first_to_last (closed (closed rows 1) 3)) 4 memory (refused 25) memory
 
 -- the one step of 3 rows and 2 columns has 7 legs, of which leg 2 leads from fix 1 to fix 3
 abbrev pub SmallLatticeWorked : Type 0

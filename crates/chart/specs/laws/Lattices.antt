@@ -20,7 +20,8 @@ use Rattle.chart.specs.laws.Rows.{rows_are_chart}
 abbrev pub kth_leg : (rows top : ℕ) → List Step → ℕ → Row
 kth_leg rows top steps k = grid_leg rows top steps (step_of rows k) (row_of rows k) (turn_of rows k)
 
-pub grid_list : (rows columns top : ℕ) (steps : List Step) → map (kth_leg rows top steps) (range_with_len 0 (grid_size rows columns)) ≡ grid_legs rows columns top steps
+pub grid_list : (rows columns top : ℕ) (steps : List Step)
+    → map (kth_leg rows top steps) (range_with_len 0 (grid_size rows columns)) ≡ grid_legs rows columns top steps
 unfolding grid_legs
 grid_list rows columns top steps = refl
 
@@ -28,12 +29,14 @@ pub length_grid : (rows columns top : ℕ) (steps : List Step) → length (grid_
 unfolding grid_legs
 length_grid rows columns top steps = length-map-range_with_len (kth_leg rows top steps) 0 (grid_size rows columns)
 
-pub grid_at : (rows columns top : ℕ) (steps : List Step) (k : ℕ) → k < grid_size rows columns → row_at (grid_legs rows columns top steps) k ≡ kth_leg rows top steps k
+pub grid_at : (rows columns top : ℕ) (steps : List Step) (k : ℕ) → k < grid_size rows columns
+    → row_at (grid_legs rows columns top steps) k ≡ kth_leg rows top steps k
 unfolding grid_legs
 grid_at rows columns top steps k h = get_or-map-range_with_len (kth_leg rows top steps) 0 (grid_size rows columns) k k no_row h (omega arith)
 
 -- the step, row and turn of a leg
-pub leg_has_number : (rows columns k : ℕ) → 1 ≤ rows → k < grid_size rows columns → HasNumber rows columns (step_of rows k) (row_of rows k) (turn_of rows k) k
+pub leg_has_number : (rows columns k : ℕ) → 1 ≤ rows → k < grid_size rows columns
+    → HasNumber rows columns (step_of rows k) (row_of rows k) (turn_of rows k) k
 leg_has_number rows columns k some h =
     let d = step_legs rows in
     let pos : 0 < d = omega arith in
@@ -79,8 +82,8 @@ grid_rows_are_valid rows columns top steps some level spans k h =
     (leg_is_valid_row rows columns top steps (step_of rows k) (row_of rows k) (turn_of rows k) k some n level
     (spans (step_of rows k) (turn_of rows k) n.step_there n.turn_there))
 
-pub grid_has_valid_counts : (rows columns top : ℕ) (steps : List Step) → 1 ≤ rows → rows ≤ max_rows → 2 ≤ columns → columns ≤ max_columns →
-    HasValidCounts (columns * rows) (length (grid_legs rows columns top steps))
+pub grid_has_valid_counts : (rows columns top : ℕ) (steps : List Step) → 1 ≤ rows → rows ≤ max_rows
+    → 2 ≤ columns → columns ≤ max_columns → HasValidCounts (columns * rows) (length (grid_legs rows columns top steps))
 grid_has_valid_counts rows columns top steps some few wide short =
     let least = mul-le 2 1 columns rows wide some in
     let most = mul-le columns rows max_columns max_rows short few in

@@ -59,8 +59,14 @@ rows_are_chart n rows c s = record {
   least = c.least;
   most = c.most;
   few = omega (arith, length_legs rows, c.few);
-  leaves = λ k h. let b : k < length rows = omega (arith, length_legs rows) in
-      subst (λ x. x < n) (sym (ap (λ (l : Leg). l.from) (leg_at_legs rows k b) ∙ ap (λ (r : Row). r.from) (row_of_leg_of_valid n (row_at rows k) (s k b)))) (s k b).valid_fixes.leaves;
-  enters = λ k h. let b : k < length rows = omega (arith, length_legs rows) in
-      subst (λ x. x < n) (sym (ap (λ (l : Leg). l.to) (leg_at_legs rows k b) ∙ ap (λ (r : Row). r.to) (row_of_leg_of_valid n (row_at rows k) (s k b)))) (s k b).valid_fixes.enters;
+  leaves = λ k h.
+      let b : k < length rows = omega (arith, length_legs rows) in
+      let same = row_of_leg_of_valid n (row_at rows k) (s k b) in
+      let from = ap (λ (l : Leg). l.from) (leg_at_legs rows k b) ∙ ap (λ (r : Row). r.from) same in
+      subst (λ x. x < n) (sym from) (s k b).valid_fixes.leaves;
+  enters = λ k h.
+      let b : k < length rows = omega (arith, length_legs rows) in
+      let same = row_of_leg_of_valid n (row_at rows k) (s k b) in
+      let to = ap (λ (l : Leg). l.to) (leg_at_legs rows k b) ∙ ap (λ (r : Row). r.to) same in
+      subst (λ x. x < n) (sym to) (s k b).valid_fixes.enters;
 }

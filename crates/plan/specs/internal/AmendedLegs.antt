@@ -59,7 +59,8 @@ IsCheckResult l a r = MatchResult r (IsGranted l a) (IsFirstGround l a)
 
 -- what is to stand of the leg of a number after a change: none where it is the chart's own again
 abbrev pub IsEntryOf : ℕ → Leg → Change → Option AmendedLeg → Type 0
-IsEntryOf k leg change r = MatchOption r (restores change ≡ true) (λ (a : AmendedLeg). (restores change ≡ false) × (a.number ≡ k) × ((own : Leg) → JoinsSameFixes own leg → overlay_leg own a ≡ changed_leg own leg change))
+IsEntryOf k leg change r = MatchOption r (restores change ≡ true) (λ (a : AmendedLeg). (restores change ≡ false) × (a.number ≡ k)
+    × ((own : Leg) → JoinsSameFixes own leg → overlay_leg own a ≡ changed_leg own leg change))
 
 -- a plan is what it was but for its amended legs
 pub record ChangesOnlyAmended {C : Type 0} (plan plan' : Filed C) (amended : List AmendedLeg) : Type 0 where

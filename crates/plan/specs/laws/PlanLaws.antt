@@ -25,11 +25,14 @@ module _ (legs : List Leg) where
   unfolding overlay_leg
   overlay_leg_joins_same_fixes leg a = record { from = refl; to = refl; top = refl }
 
-  amended_joins_same_fixes : (k : ℕ) (xs : List Leg) (a : AmendedLeg) → k ≡ a.number → k < length xs → JoinsSameFixes (leg_at legs k) (leg_at (slice_set xs a.number (overlay_leg (leg_at legs a.number) a)) k)
+  amended_joins_same_fixes : (k : ℕ) (xs : List Leg) (a : AmendedLeg) → k ≡ a.number → k < length xs
+      → JoinsSameFixes (leg_at legs k) (leg_at (slice_set xs a.number (overlay_leg (leg_at legs a.number) a)) k)
   unfolding leg_at
   amended_joins_same_fixes k xs a e h =
-      subst (λ x. JoinsSameFixes (get_or legs k no_leg) x) (sym (get_or-set_at xs a.number k (overlay_leg (leg_at legs a.number) a) no_leg e (omega arith)))
-      (subst (λ j. JoinsSameFixes (get_or legs j no_leg) (overlay_leg (leg_at legs a.number) a)) (sym e) (overlay_leg_joins_same_fixes (leg_at legs a.number) a))
+      let leg = overlay_leg (leg_at legs a.number) a in
+      let joins = overlay_leg_joins_same_fixes (leg_at legs a.number) a in
+      subst (λ x. JoinsSameFixes (get_or legs k no_leg) x) (sym (get_or-set_at xs a.number k leg no_leg e (omega arith)))
+      (subst (λ j. JoinsSameFixes (get_or legs j no_leg) leg) (sym e) joins)
 
   -- a plan's leg joins the same fixes as the chart's, at the same top level
   pub overlay_joins_same_fixes : (amended : List AmendedLeg) (k : ℕ) → JoinsSameFixes (leg_at legs k) (leg_at (overlay legs amended) k)
@@ -40,12 +43,17 @@ module _ (legs : List Leg) where
       (λ (e : k ≡ a.number).
       ⊎_elim
       (λ (h : k < length (overlay legs more)). amended_joins_same_fixes k (overlay legs more) a e h)
-      (λ (h : length (overlay legs more) ≤ k). subst (λ (xs : List Leg). JoinsSameFixes (get_or legs k no_leg) (get_or xs k no_leg)) (sym (set_past (overlay legs more) a.number (overlay_leg (leg_at legs a.number) a) (omega arith))) (overlay_joins_same_fixes more k))
+      (λ (h : length (overlay legs more) ≤ k).
+      subst (λ (xs : List Leg). JoinsSameFixes (get_or legs k no_leg) (get_or xs k no_leg))
+      (sym (set_past (overlay legs more) a.number (overlay_leg (leg_at legs a.number) a) (omega arith))) (overlay_joins_same_fixes more k))
       (cases_lt k (length (overlay legs more))))
-      (λ (n : k ≢ a.number). subst (λ x. JoinsSameFixes (get_or legs k no_leg) x) (sym (get_or-set_other (overlay legs more) a.number k (overlay_leg (leg_at legs a.number) a) no_leg n)) (overlay_joins_same_fixes more k))
+      (λ (n : k ≢ a.number).
+      subst (λ x. JoinsSameFixes (get_or legs k no_leg) x)
+      (sym (get_or-set_other (overlay legs more) a.number k (overlay_leg (leg_at legs a.number) a) no_leg n)) (overlay_joins_same_fixes more k))
       (cases_eq k a.number)
 
-pub plan_is_chart : {C : Type 0} (fixes : C → ℕ) (legs : C → List Leg) → ((c : C) → IsChart (fixes c) (legs c)) → (plan : Filed C) → IsChart (fixes plan.chart) (plan_legs legs plan)
+pub plan_is_chart : {C : Type 0} (fixes : C → ℕ) (legs : C → List Leg) → ((c : C) → IsChart (fixes c) (legs c))
+    → (plan : Filed C) → IsChart (fixes plan.chart) (plan_legs legs plan)
 plan_is_chart fixes legs is_chart plan =
     let own = legs plan.chart in
     let c = is_chart plan.chart in

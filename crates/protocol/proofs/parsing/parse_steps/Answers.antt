@@ -1,11 +1,12 @@
 use Rattle.std.proofs.Common.{◌≡◌, [], ◌∷◌, ◌++◌, arith, rules}
 use Rattle.chart.specs.Grid.{step_at}
+use Rattle.protocol.specs.declared.parsing.ParseError.TheVariants.{Malformed}
 use Rattle.protocol.proofs.Parts.{passed_on, steps_more}
 use Rattle.protocol.proofs.parsing.parse_steps.Goals as goal
 
 pub returns-in_err-step : goal.returns-in_err-step
 returns-in_err-step c =
-    passed_on _ _ _ c.from_residual.result c.from_residual.ensures.1 c.in_err-step.ensures
+    passed_on _ _ Malformed c.from_residual.result c.from_residual.ensures.1 c.in_err-step.ensures
     (λ steps says. let many = says.0 in (step_at steps.items c.loop-k.k, says.1 c.loop-k.k (omega arith)))
 
 pub loop-k-preserved : goal.loop-k-preserved

@@ -1,4 +1,4 @@
-use Rattle.std.proofs.Common.{◌≡◌, sym, subst, ◌∙◌, arith}
+use Rattle.std.proofs.Common.{rules, ◌≡◌, sym, subst, arith}
 use Rattle.std.specs.Prelude.{Ok}
 use Rattle.std.specs.Str.{IsUtf8}
 use Rattle.std.proofs.lemmas.Result.{MatchResult-at_ok}
@@ -6,10 +6,9 @@ use Rattle.reader.specs.Readings.{indexed_names}
 use Rattle.console.proofs.ChartsTaken.{name_is_text}
 use Rattle.console.proofs.current_chart.CurrentChart.name.Goals as goal
 
-pub returns : goal.returns
-returns c =
-    let names = indexed_names c.in-Some.index in
+pub unwrap-text-requires : goal.unwrap-text-requires
+unwrap-text-requires c =
     let is : c.name.result ≡ Ok c.in_ok-name.name = grind arith in
     let named = MatchResult-at_ok _ _ c.in_ok-name.name is c.name.ensures.gives_the_name in
-    let text = subst IsUtf8 (sym named.text) (name_is_text names c.args.fix c.name.ensures.names_are_good named.there) in
-    rw c.in-Some.is (record { there = named.there; same = c.in_ok-from_utf8_lossy.ensures.ok text ∙ named.text; at = named.place })
+    let text : IsUtf8 c.in_ok-name.name.text.now = subst IsUtf8 (sym named.text) (name_is_text (indexed_names c.in-Some.index) c.args.fix c.name.ensures.names_are_good named.there) in
+    search rules
