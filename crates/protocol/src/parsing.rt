@@ -281,13 +281,11 @@ pub fn parse_line(alloc: Global, line: &str) -> Result<Line<'_>, AllocError>
     let Some(first) = words.next() else {
         return Ok(Line::Comment);
     };
-    // The promise speaks of all words of a line. They are gone through, and memory is asked for those alone that may say something.
+    // A comment, and a line that begins with no verb, is known by its first word. Memory is asked only for words that may say something.
     if first.starts_with('#') {
-        words.count();
         return Ok(Line::Comment);
     }
     let Some(verb) = Verb::of(first) else {
-        words.count();
         return Ok(Line::Unknown);
     };
     if !takes_list(verb) && words.count() > MOST_WORDS {

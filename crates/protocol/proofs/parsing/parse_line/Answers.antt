@@ -1,6 +1,7 @@
 use Rattle.std.proofs.Common.{◌≡◌, ◌∷◌, arith, rules}
 use Rattle.protocol.specs.Lines.{IsWordsOf, IsComment, SaysLine, Words, word}
 use Rattle.protocol.specs.declared.command.Line.TheVariants.{Unknown}
+use Rattle.protocol.proofs.LineWords.{words_after_first}
 use Rattle.protocol.proofs.Parts.{line_said, words_from_first, too_many_words}
 use Rattle.protocol.specs.Verbs.{verb_word}
 use Rattle.protocol.specs.internal.Parses.{CollectsList}
@@ -14,23 +15,21 @@ returns c =
 
 pub returns-then-starts_with : goal.returns-then-starts_with
 returns-then-starts_with c =
-    let (rest, drains, _) = c.count.ensures.ran in
+    let (rest, its) = words_after_first c.args.line.now c.split_whitespace-words.result c.next.new.self c.in-Some.first c.utf8.line c.split_whitespace-words.ensures.rest c.in-Some.ensures.steps in
     let words : Words = c.in-Some.first ∷ rest in
-    let its : IsWordsOf c.args.line.now words = words_from_first _ c.split_whitespace-words.result _ c.in-Some.first _ c.split_whitespace-words.ensures.rest c.in-Some.ensures.steps drains in
     let comment : IsComment words = search rules in
     record { says = (words, its, comment) }
 
 pub returns-in_default-of : goal.returns-in_default-of
 returns-in_default-of c =
-    let (rest, drains, _) = c.count-in_default-of.ensures.ran in
+    let (rest, its) = words_after_first c.args.line.now c.split_whitespace-words.result c.next.new.self c.in-Some.first c.utf8.line c.split_whitespace-words.ensures.rest c.in-Some.ensures.steps in
     let words : Words = c.in-Some.first ∷ rest in
-    let its : IsWordsOf c.args.line.now words = words_from_first _ c.split_whitespace-words.result _ c.in-Some.first _ c.split_whitespace-words.ensures.rest c.in-Some.ensures.steps drains in
     let unknown : SaysLine words Unknown = search rules in
     record { says = (words, its, unknown) }
 
 pub returns-then-count-gt-MOST_WORDS : goal.returns-then-count-gt-MOST_WORDS
 returns-then-count-gt-MOST_WORDS c =
-    let (rest, drains, many) = c.count-then-not-takes_list.ensures.ran in
+    let (rest, drains, many) = c.count.ensures.ran in
     let words : Words = c.in-Some.first ∷ rest in
     let its : IsWordsOf c.args.line.now words = words_from_first _ c.split_whitespace-words.result _ c.in-Some.first _ c.split_whitespace-words.ensures.rest c.in-Some.ensures.steps drains in
     let other : CollectsList c.in-Some-of.verb → ⊥ = search rules in
