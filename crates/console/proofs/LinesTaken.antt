@@ -1,11 +1,12 @@
 -- A script's lines are taken one by one.
-use Rattle.std.proofs.Common.{◌≡◌, ℕ, ◌<◌, List, [], ◌∷◌, ◌++◌, length, refl, subst, sym, ◌∙◌}
+use Rattle.std.proofs.Common.{◌≡◌, ℕ, ◌<◌, List, [], ◌∷◌, ◌++◌, length, refl, subst, sym, inl, ◌∙◌}
 use Rattle.std.specs.Prelude.{Option, Some, None, IfSome, Ok, Result}
 use Rattle.std.specs.Str.Lossy.{utf8_lossy}
 use Rattle.std.specs.Io.BufRead.{first_piece, drop_through}
 use Rattle.std.specs.Io.KnownBytes.{IsAtEnd}
 use Rattle.std.specs.Io.Iter.{YieldsKnownPiece}
 use Rattle.protocol.specs.declared.command.Line.{Line}
+use Rattle.protocol.specs.declared.command.Line.TheVariants.{Comment}
 use Rattle.protocol.specs.declared.reply_line.ReplyLine.{ReplyLine}
 use Rattle.protocol.specs.Lines.{Words, IsWordsOf, SaysLine}
 use Rattle.console.specs.Models.{SessionModel}
@@ -20,6 +21,12 @@ one_line_more [] script rest first some =
     subst (λ all. (0 < length all) × (first_piece line_end rest ≡ first_piece line_end all) × (drop_through line_end rest ≡ drop_through line_end all))
     first (some, refl, refl)
 one_line_more (line ∷ more) script rest first some = (first.0, first.1, one_line_more more (drop_through line_end script) rest first.2 some)
+
+-- a comment is taken with no reply, and leaves the session what it was
+pub comment_taken : (fetches : Fetches) (stores : Stores) (s : SessionModel) (line : Line) → line ≡ Comment → IsTakenLine fetches stores s line (Ok None) s
+comment_taken fetches stores s line is =
+    subst (λ l. IsTakenLine fetches stores s l (Ok None) s) (sym is)
+    (inl (record { file = None; reply = Ok None; fetched = refl; step = (refl, refl); stored = refl }))
 
 module _ (fetches : Fetches) (stores : Stores) (s : SessionModel) where
   -- where reading a script has come to: the session has taken the lines before `rest`, and where the script is known, so is what is left

@@ -60,8 +60,9 @@ fn fetch_for<F: Files>(
     }
 }
 
-// Takes one line: fetches the file that it names, replies to it, and writes the picture that it asked for. There is no reply to a comment.
-pub(crate) fn take_line<'a, F: Files>(
+// Takes a line that may be a command, as `take_line` says. Its frame holds replies, and is kept out of that of a comment.
+#[inline(never)]
+fn take_command<'a, F: Files>(
     rt: &HostRuntime,
     files: &F,
     session: &mut Session,
@@ -84,4 +85,22 @@ pub(crate) fn take_line<'a, F: Files>(
         verb: Verb::Picture,
         why: Rejection::Unwritable { path },
     }))
+}
+
+// Takes one line: fetches the file that it names, replies to it, and writes the picture that it asked for. There is no reply to a comment.
+#[inline(always)]
+pub(crate) fn take_line<'a, F: Files>(
+    rt: &HostRuntime,
+    files: &F,
+    session: &mut Session,
+    line: Line<'a>,
+) -> Result<Option<ReplyLine<'a>>, AllocError>
+    ensures taken { IsTakenLine (F.fetches files.now) (F.stores files.now)
+        (session_of session.old) line.entry result (session_of session.new) }
+    ensures without_memory { OnErr result (session_of session.new ≡ session_of session.old) }
+{
+    match line {
+        Line::Comment => Ok(None),
+        line => take_command(rt, files, session, line),
+    }
 }

@@ -6,9 +6,11 @@ mod cases;
 mod chart_file;
 mod compare;
 mod groups;
+mod tables;
 mod verdict;
 
 use groups::show;
+use tables::show_tables;
 use verdict::VERDICTS;
 
 fn main(rt: HostRuntime) -> anyhow::Result<()> {
@@ -17,5 +19,5 @@ fn main(rt: HostRuntime) -> anyhow::Result<()> {
         count = count.saturating_add(show(&rt, *verdict)?);
     }
     println!(rt; "{count} cases")?;
-    Ok(())
+    show_tables(&rt)
 }

@@ -112,8 +112,8 @@ impl<'a> BranchAndBound<'a> {
         }
     }
 
-    // Whether the chain, which leads to the fix `here`, can be pruned, by its pursuit bound, or by its floor where the chart has no
-    // pursuit: no route that begins with it could then replace the incumbent. What it works on is kept out of the frames of the
+    // Whether the chain, which leads to the fix `here`, can be pruned, by its pursuit bound, or by its floor where the search has
+    // no pursuit: no route that begins with it could then replace the incumbent. What it works on is kept out of the frames of the
     // search, which goes deep.
     #[inline(never)]
     fn can_prune(&self, here: u16) -> bool

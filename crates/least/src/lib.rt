@@ -2,6 +2,7 @@
 #![tactic(auto)]
 
 mod branch_and_bound;
+mod few_chains;
 mod refusals;
 mod routes;
 

@@ -7,6 +7,7 @@ ghost use Rattle.least.specs.internal.BranchAndBound.{IsOptimal};
 ghost use Rattle.least.specs.Answers.{route_outcome, IsRouteOutcome};
 
 use super::branch_and_bound::{BranchAndBound, Incumbent};
+use super::few_chains::has_few_chains;
 use super::refusals::RouteRefusal;
 use arrayvec::ArrayVec;
 use chart::limits::{MAX_FIXES, MAX_LEGS};
@@ -49,18 +50,32 @@ fn find_with<'a>(
     exploration.incumbent
 }
 
-// The best of all routes between two ends, and its regret.
+// The best of all routes between two ends, by a search with a pursuit where the chart has one. The pursuit is large, and is kept out
+// of the frame of a search without one.
+#[inline(never)]
+fn find_by_pursuit(snapshot: &Snapshot, ends: Ends) -> Option<Incumbent>
+    requires leaves { ends.from < snapshot_fixes snapshot.now }
+    ensures { IsOptimal (query (snapshot_legs snapshot.now) ends.from ends.to) result }
+{
+    let mut pursuit = Pursuit::new();
+    if pursuit.fill(snapshot, ends) {
+        return find_with(snapshot, ends, Some(&pursuit));
+    }
+    find_with(snapshot, ends, None)
+}
+
+// The best of all routes between two ends, and its regret. Where few chains come into the search, floors take less time than a
+// pursuit would take to be filled.
 fn find(snapshot: &Snapshot, ends: Ends) -> Option<Incumbent>
     ensures { IsOptimal (query (snapshot_legs snapshot.now) ends.from ends.to) result }
 {
     if ends.from >= snapshot.n() {
         return None;
     }
-    let mut pursuit = Pursuit::new();
-    if pursuit.fill(snapshot, ends) {
-        return find_with(snapshot, ends, Some(&pursuit));
+    if has_few_chains(snapshot, ends) {
+        return find_with(snapshot, ends, None);
     }
-    find_with(snapshot, ends, None)
+    find_by_pursuit(snapshot, ends)
 }
 
 /// Writes the route of least regret between two ends into the first places of the memory, as the numbers of its legs, and

@@ -1,6 +1,10 @@
 -- How the steps of taking a line apart pass on what they find.
 use Rattle.std.proofs.Common.{◌≡◌, ◌≢◌, refl, ℕ, ◌+◌, ◌*◌, ◌<◌, List, [], ◌∷◌, ◌++◌, ◌-◌, ◌≤◌, length, take, drop, Result, Ok, Err, IsErrAnd, IfOk, ap, ◌∙◌, arith, below_more}
-use Rattle.std.specs.Prelude.{⊤}
+use Rattle.std.specs.Prelude.{⊤, Option, Some, None}
+use Rattle.std.specs.Borrow.{Bor}
+use Rattle.std.specs.Iterator.{Drains}
+use Rattle.std.specs.Str.Iter.{split_whitespace_rest, split_whitespace_steps}
+use Rattle.std.specs.declared.str.SplitWhitespace.{SplitWhitespace}
 use Rattle.std.proofs.lemmas.List.{get_or_append_left, get_or_at, length-append, length-drop, take_all}
 use Rattle.std.proofs.lemmas.Result.{err_from_is_err_and}
 use Rattle.std.specs.declared.alloc.AllocError.{AllocError}
@@ -16,7 +20,7 @@ use Rattle.protocol.specs.declared.parsing.Malformed.{Malformed}
 use Rattle.protocol.specs.declared.command.Verb.{Verb}
 use Rattle.protocol.specs.declared.command.Verb.TheVariants.{Chart, Lattice, Name, Draft, Ends, File, Amend, Route, Regret, Floor, Quickest, Level, Status, Close as CloseVerb, Picture}
 use Rattle.protocol.specs.declared.command.Command.{Command}
-use Rattle.protocol.specs.Lines.{Words, word, dash, SaysTimes, SaysInterval, SaysStep, SaysSteps, SaysChange, SaysOfPlan, SaysCommand, SaysLine, IsWordsOf}
+use Rattle.protocol.specs.Lines.{Words, word, dash, SaysTimes, SaysInterval, SaysStep, SaysSteps, SaysChange, SaysPlaces, SaysOfPlan, SaysCommand, SaysLine, IsWordsOf}
 use Rattle.protocol.specs.internal.Parses.{Reads, Refutes, Parses, CollectsNumbers, CollectsList, SaysFirstSteps}
 use Rattle.protocol.proofs.Cut.{IsCut}
 
@@ -91,3 +95,39 @@ pub line_said : (text : List ℕ) (words : Words) (r : Result Line AllocError) �
     → IfOk r (SaysLine words) → IfOk r (λ said. (its : Words) × IsWordsOf text its × SaysLine its said)
 line_said text words (Ok line) its says = (words, its, says)
 line_said text words (Err e) its says = tt
+
+-- the words of a text are its first one and those that are left then
+pub words_from_first : (text : List ℕ) (s t : SplitWhitespace) (first : Bor (List ℕ)) (rest : Words) → split_whitespace_rest s ≡ text
+    → split_whitespace_steps s (Some first) t → Drains split_whitespace_steps t rest → IsWordsOf text (first ∷ rest)
+words_from_first text s t first rest is step (u, (v, yields, ends)) = (s, is, (v, (t, step, yields), λ _. (u, ends)))
+
+-- a change is said in three words at most
+change_is_short : (words : Words) (change : Change) → SaysChange words change → length words ≤ 3
+change_is_short words Close says = omega (arith, says.0)
+change_is_short words (Times interval) says = omega (arith, says.0)
+change_is_short words Restore says = omega (arith, says.0)
+
+-- places are said in one word at most
+places_are_few : (words : Words) (places : Option ℕ) → SaysPlaces words places → length words ≤ 1
+places_are_few words None says = omega (arith, says)
+places_are_few words (Some places) says = omega (arith, says.0)
+
+-- more than six words after a verb that takes no list say nothing
+pub too_many_words : (verb : Verb) (words : Words) → (CollectsList verb → ⊥) → 6 < length words → (command : Command) → SaysCommand verb words command → ⊥
+too_many_words Chart words other more command says = let n = says.1 in omega arith
+too_many_words Lattice words other more command says = other tt
+too_many_words Name words other more command says = let n = says.1 in omega arith
+too_many_words Picture words other more command says = let n = says.2 in omega arith
+too_many_words Draft words other more command says = let n = says.4.0 in omega (arith, length-drop 1 words)
+too_many_words Ends words other more command says = let n = says.4.1.0 in omega (arith, length-drop 1 words)
+too_many_words File words other more command says = let n = says.4.0 in omega (arith, length-drop 1 words)
+too_many_words Amend words other more command says =
+    let n = change_is_short (drop 2 (drop 1 words)) says.4.0.change says.4.1.3 in
+    omega (arith, length-drop 2 (drop 1 words), length-drop 1 words)
+too_many_words Route words other more command says = let n = places_are_few (drop 1 words) says.4.0 says.4.1 in omega (arith, length-drop 1 words)
+too_many_words Regret words other more command says = other tt
+too_many_words Floor words other more command says = other tt
+too_many_words Quickest words other more command says = let n = says.4.0 in omega (arith, length-drop 1 words)
+too_many_words Level words other more command says = let n = says.4.0 in omega (arith, length-drop 1 words)
+too_many_words Status words other more command says = let n = says.4.0 in omega (arith, length-drop 1 words)
+too_many_words CloseVerb words other more command says = let n = says.4.0 in omega (arith, length-drop 1 words)

@@ -1,5 +1,5 @@
 // How a line of a script is taken apart.
-ghost use Rattle.std.specs.Prelude.{◌≡◌, ◌==◌, ⊤, IfOk, OnErr, slice_index};
+ghost use Rattle.std.specs.Prelude.{◌≡◌, ◌==◌, ⊤, IfOk, OnErr, MatchBool, slice_index};
 ghost use Rattle.protocol.specs.Lines.{IsWordsOf, SaysNumber, SaysNumbers, SaysTimes, SaysInterval, SaysStep};
 ghost use Rattle.protocol.specs.Lines.{SaysSteps, SaysChange, SaysAmendment, SaysPlaces, SaysPlanCommand};
 ghost use Rattle.protocol.specs.Lines.{SaysLattice, SaysOfPlan, SaysCommand, SaysLine, Words};
@@ -241,6 +241,16 @@ fn parse_command<'a>(
     }
 }
 
+// How many words may follow a verb that takes no list: those of an amendment of times.
+const MOST_WORDS: usize = 6;
+
+// Whether any number of words may follow the verb.
+fn takes_list(verb: Verb) -> bool
+    ensures { MatchBool result ⊤ (CollectsList verb → ⊥) }
+{
+    matches!(verb, Verb::Lattice | Verb::Regret | Verb::Floor)
+}
+
 // What the words of a line say.
 fn read_words<'a>(alloc: Global, words: &[&'a str]) -> Result<Line<'a>, AllocError>
     ensures says { IfOk result (SaysLine words.now) }
@@ -267,6 +277,20 @@ fn read_words<'a>(alloc: Global, words: &[&'a str]) -> Result<Line<'a>, AllocErr
 pub fn parse_line(alloc: Global, line: &str) -> Result<Line<'_>, AllocError>
     ensures says { IfOk result (λ said. (words : Words) × IsWordsOf line.now words × SaysLine words said) }
 {
+    let mut words = line.split_whitespace();
+    let Some(first) = words.next() else {
+        return Ok(Line::Comment);
+    };
+    // A comment, and a line that begins with no verb, is known by its first word. Memory is asked only for words that may say something.
+    if first.starts_with('#') {
+        return Ok(Line::Comment);
+    }
+    let Some(verb) = Verb::of(first) else {
+        return Ok(Line::Unknown);
+    };
+    if !takes_list(verb) && words.count() > MOST_WORDS {
+        return Ok(Line::Malformed(verb));
+    }
     let words: Vec<&str> = line.split_whitespace().collect(alloc)?;
     read_words(alloc, &words)
 }

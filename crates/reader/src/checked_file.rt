@@ -11,15 +11,14 @@ use super::fix_name::{FixName, NoSuchFix};
 use arrayvec::ArrayVec;
 use chart::Row;
 use chart::limits::MAX_FIXES;
-use chart_format::sizes::{LEG_RECORD, LENGTH_BYTES, MARK_BYTES, NAME_OFFSET};
+use chart_format::sizes::{LEG_RECORD, MARK_BYTES, NAME_OFFSET};
 use chart_format::{rest_from, row_in_body};
 
-// What a file was found to hold: its counts, the places of the records of its names, and the place where the records of its
-// legs begin.
-#[derive(Drop)]
+// What a file was found to hold: its counts, and the place where the records of its legs begin. The places of the records of its
+// names go into a list that the caller lends: to move them with this from call to call took as long as to read a small file.
+#[derive(Clone, Copy)]
 pub(crate) struct CheckedFile {
     pub(crate) counts: Counts,
-    pub(crate) starts: ArrayVec<usize, MAX_FIXES>,
     pub(crate) base: usize,
 }
 
@@ -28,9 +27,9 @@ fn name_of_record(file: &[u8], at: usize) -> &[u8]
     requires { HasFixBody file.now at }
     ensures { result.now ≡ name_in (body (drop at file.now)) }
 {
-    let body = rest_from(rest_from(file, at), MARK_BYTES);
-    let len = body[0] as usize;
-    &body[LENGTH_BYTES..LENGTH_BYTES + len]
+    let record = rest_from(file, at);
+    let len = record[MARK_BYTES] as usize;
+    &record[NAME_OFFSET..NAME_OFFSET + len]
 }
 
 // Whether the name is none of those whose records stand at these places. With `all` in place of the loop it is not proved that

@@ -104,25 +104,26 @@ impl Cursor {
         Ok(())
     }
 
-    // The names, one after the other: the places of their records.
+    // The names, one after the other: the places of their records, into `starts`, which has none yet.
     fn read_fixes(
         &mut self,
         file: &[u8],
         fixes: u16,
-    ) -> Result<ArrayVec<usize, MAX_FIXES>, ChartFault>
-        requires { AfterNames file.now self.old.place fixes (legs_in (body file.now)) [] }
+        starts: &mut ArrayVec<usize, MAX_FIXES>,
+    ) -> Result<(), ChartFault>
+        requires before_names { AfterNames file.now self.old.place fixes (legs_in (body file.now)) [] }
+        requires without_starts { starts.old.items ≡ [] }
         ensures { MatchResult result
-            (λ starts. AfterNames file.now self.new.place fixes (legs_in (body file.now)) starts.items
-            × (length starts.items ≡ fixes))
+            (λ _. AfterNames file.now self.new.place fixes (legs_in (body file.now)) starts.new.items
+            × (length starts.new.items ≡ fixes))
             (λ e. FaultAt file.now (legs_in (body file.now)) e self.new.place) }
     {
-        let mut starts = ArrayVec::new();
         for _ in 0..fixes {
             let start = self.place;
             self.read_fix(file, starts.as_slice())?;
             starts.push(start);
         }
-        Ok(starts)
+        Ok(())
     }
 
     // The legs, one after the other.
@@ -156,44 +157,49 @@ impl Cursor {
         Ok(())
     }
 
-    // Checks all records from the beginning of the file, where there is room for so many legs.
-    fn check_file(&mut self, file: &[u8], room: usize) -> Result<CheckedFile, ChartFault>
-        requires { AreBytes file.now }
+    // Checks all records from the beginning of the file, where there is room for so many legs, and puts the places of the records of
+    // the names into `starts`, which has none yet.
+    fn check_file(
+        &mut self,
+        file: &[u8],
+        room: usize,
+        starts: &mut ArrayVec<usize, MAX_FIXES>,
+    ) -> Result<CheckedFile, ChartFault>
+        requires bytes { AreBytes file.now }
+        requires without_starts { starts.old.items ≡ [] }
         ensures { MatchResult result
-            (λ f. IsCheckedFile file.now room f.starts.items f.counts.fixes f.counts.legs f.base
+            (λ f. IsCheckedFile file.now room starts.new.items f.counts.fixes f.counts.legs f.base
             × (self.new.place ≡ length file.now))
             (λ e. IsFaultOf file.now room (chart_report e) × (self.new.place ≡ (chart_report e).place)) }
     {
         self.place = 0;
         let counts = self.read_chart(file, room)?;
-        let starts = self.read_fixes(file, counts.fixes)?;
+        self.read_fixes(file, counts.fixes, starts)?;
         let base = self.place;
         self.read_legs_to_end(file, counts)?;
-        Ok(CheckedFile {
-            counts,
-            starts,
-            base,
-        })
+        Ok(CheckedFile { counts, base })
     }
 
-    // Reads a file from its beginning, and puts its legs into the first places of memory. Later places hold what they held, and all
-    // of them where the file is refused.
+    // Reads a file from its beginning, and puts its legs into the first places of memory, and the places of the records of its names
+    // into `starts`, which has none yet. Later places of memory hold what they held, and all of them where the file is refused.
     pub(crate) fn read_file(
         &mut self,
         file: &[u8],
         memory: &mut [Row],
+        starts: &mut ArrayVec<usize, MAX_FIXES>,
     ) -> Result<CheckedFile, ChartFault>
-        requires { AreBytes file.now }
+        requires bytes { AreBytes file.now }
+        requires without_starts { starts.old.items ≡ [] }
         ensures { MatchResult result
-            (λ f. Accepts file.now (names_at file.now f.starts.items) f.counts memory.old memory.new
-            × HaveFixBodies file.now f.starts.items
-            × IsNameIndex file.now f.starts.items
+            (λ f. Accepts file.now (names_at file.now starts.new.items) f.counts memory.old memory.new
+            × HaveFixBodies file.now starts.new.items
+            × IsNameIndex file.now starts.new.items
             × (self.new.place ≡ length file.now))
             (λ e. IsFaultOf file.now (length memory.old) (chart_report e)
             × (self.new.place ≡ (chart_report e).place)
             × (memory.new ≡ memory.old)) }
     {
-        let checked = self.check_file(file, memory.len())?;
+        let checked = self.check_file(file, memory.len(), starts)?;
         let rows = &mut memory[..checked.counts.legs as usize];
         fill(file, checked.base, rows);
         Ok(checked)

@@ -61,11 +61,12 @@ impl FileIndex {
         ensures one_verdict { HasOneVerdict file.items (length memory.old) }
     {
         let mut cursor = Cursor { place: 0 };
-        let checked = cursor.read_file(file.as_slice(), memory)?;
+        let mut starts = ArrayVec::new();
+        let checked = cursor.read_file(file.as_slice(), memory, &mut starts)?;
         Ok(FileIndex {
             file,
             counts: checked.counts,
-            starts: checked.starts,
+            starts,
         })
     }
 

@@ -84,7 +84,9 @@ impl<'r> Guard<'r> {
         Ok(record)
     }
 
-    // Reads the record of this kind, from its mark to the end of its body.
+    // Reads the record of this kind, from its mark to the end of its body. Each call names its kind, so that each copy of this has
+    // the checks of that kind alone, and moves no record of another.
+    #[inline(always)]
     pub(crate) fn read_record<'a>(
         &mut self,
         file: &'a [u8],

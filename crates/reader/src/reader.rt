@@ -78,8 +78,9 @@ impl<'a> Reader<'a> {
             × (memory.new ≡ memory.old)) }
         ensures one_verdict { HasOneVerdict (file_of self.old) (length memory.old) }
     {
-        let checked = self.cursor.read_file(self.file, memory)?;
-        self.starts = checked.starts;
+        let mut starts = ArrayVec::new();
+        let checked = self.cursor.read_file(self.file, memory, &mut starts)?;
+        self.starts = starts;
         Ok(checked.counts)
     }
 

@@ -7,7 +7,7 @@ use chart::limits::{MAX_FIXES, MAX_LEGS};
 
 /// What is known of a chain that was walked along.
 // Sets of fixes and of legs are flags of fixed size, since no call allocates memory.
-#[derive(Drop)]
+#[derive(Clone, Copy)]
 pub struct Walked {
     /// The fix that it begins at.
     pub from: u16,

@@ -18,7 +18,7 @@ returns c =
     let checked = c.in_ok-checked.checked in
     let legs = legs_at file checked.base checked.counts.legs in
     let count = legs_length file checked.base checked.counts.legs in
-    let names = names_length file checked.starts.items in (
+    let names = names_length file c.check_file.new.starts.items in (
       record {
         chart = record {
           legs = legs;

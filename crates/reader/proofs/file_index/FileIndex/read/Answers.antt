@@ -1,4 +1,4 @@
-use Rattle.std.proofs.Common.{◌∙◌, refl}
+use Rattle.std.proofs.Common.{◌∙◌, refl, arith}
 use Rattle.reader.specs.Readings.{indexed_names}
 use Rattle.reader.proofs.FaultPassedOn.{fault_passed_on}
 use Rattle.reader.proofs.NamesAt.{names_length, names_of_chart}
@@ -9,6 +9,11 @@ returns-in_err-checked-clause-reads_the_chart_or_tells_the_fault c =
     let h = rw c.as_slice.ensures.value at c.in_err-checked.ensures in
     fault_passed_on c.from_residual.result _ _ c.from_residual.ensures.1 (h.0, h.2)
 
+pub invariant_of-result-clause-most : goal.invariant_of-result-clause-most
+invariant_of-result-clause-most c =
+    let h = rw c.as_slice.ensures.value at c.in_ok-checked.ensures in
+    omega (arith, names_length c.args.file.items c.read_file.new.starts.items, h.0.chart.means.valid.counts_valid.most)
+
 pub invariant_of-result-clause-bodies : goal.invariant_of-result-clause-bodies
 invariant_of-result-clause-bodies c = (rw c.as_slice.ensures.value at c.in_ok-checked.ensures).1
 
@@ -18,7 +23,7 @@ invariant_of-result-clause-indexed c = (rw c.as_slice.ensures.value at c.in_ok-c
 pub invariant_of-result-clause-counted : goal.invariant_of-result-clause-counted
 invariant_of-result-clause-counted c =
     let h = rw c.as_slice.ensures.value at c.in_ok-checked.ensures in
-    h.0.chart.fixes ∙ names_length c.args.file.items c.in_ok-checked.checked.starts.items
+    h.0.chart.fixes ∙ names_length c.args.file.items c.read_file.new.starts.items
 
 pub invariant_of-result-clause-names : goal.invariant_of-result-clause-names
 invariant_of-result-clause-names c = names_of_chart (rw c.as_slice.ensures.value at c.in_ok-checked.ensures).0.chart.means
