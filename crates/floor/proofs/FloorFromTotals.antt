@@ -1,6 +1,6 @@
 -- The floor of a chain from what was found of it: its high time, the least high time onward, and the time of the floor choice.
 use Rattle.floor.specs.declared.refusals.FloorRefusal.{FloorRefusal}
-use Rattle.std.proofs.Common.{ℕ, ◌+◌, ◌-◌, ◌≤◌, List, Ok, arith, Err, None, Option, ok_or, ap, ◌∙◌, Result, ◌≡◌}
+use Rattle.std.proofs.Common.{ℕ, ◌+◌, ◌≤◌, List, Ok, Err, None, Option, ok_or, ap, ◌∙◌, Result, ◌≡◌}
 use Rattle.chart.specs.declared.leg.Leg.{Leg}
 use Rattle.chart.specs.Regret.{query}
 use Rattle.chart.specs.Floors.{IsLeastExtension}
@@ -17,13 +17,13 @@ module _ (legs : List Leg) (s t : ℕ) (ks : List ℕ) (w : Walked) (along : IsW
   near = least_extension_by legs s t ks w.end w.used along.walk x onward w.high along.sums floor_choice.least.by floor_choice.least.is_route
 
   -- the time of the floor choice is not above that of the least extension, and the floor is what it is below
-  pub floor_found : (b ≤ w.high + x) × IsFloorOutcome (query legs s t) ks (floor_outcome (Ok (w.high + x - b)))
+  pub floor_found : (b ≤ w.high + x) × ((y : ℕ) → w.high + x ≡ b + y → IsFloorOutcome (query legs s t) ks (floor_outcome (Ok y)))
   floor_found =
       let below = floor_is_never_negative (query legs s t) ks (w.high + x) b floor_choice.choice near floor_choice.floor_choice floor_choice.least in (
         below,
-        (
+        λ y difference. (
           (w.end, along.walk.chain),
-          record { a = w.high + x; b = b; v = floor_choice.choice; extension = near; floor_choice = floor_choice.floor_choice; least = floor_choice.least; difference = omega arith },
+          record { a = w.high + x; b = b; v = floor_choice.choice; extension = near; floor_choice = floor_choice.floor_choice; least = floor_choice.least; difference = difference },
         ),
       )
 

@@ -1,5 +1,5 @@
 -- The regret of a route from the best total in its worst choice.
-use Rattle.std.proofs.Common.{◌≡◌, ℕ, ◌+◌, ◌-◌, ◌<◌, ◌≤◌, Bool, true, false, List, [], ◌∷◌, Some, None, MatchOption, Option, eqb, Ok, Err, refl, sym, ap, ◌∙◌, subst, arith}
+use Rattle.std.proofs.Common.{◌≡◌, ℕ, ◌+◌, ◌<◌, ◌≤◌, Bool, true, false, List, [], ◌∷◌, Some, None, MatchOption, Option, eqb, Ok, Err, refl, sym, ap, ◌∙◌, subst, arith}
 use Rattle.std.specs.Bool.{then_some}
 use Rattle.std.proofs.lemmas.Bool.{false_from_ne_true, eqb-true, eqb-false}
 use Rattle.chart.specs.declared.leg.Leg.{Leg}
@@ -44,14 +44,14 @@ chain_is_route legs s t z [] c e q r = absurd (route_goes_away legs s q (subst (
 chain_is_route legs s t z (k ∷ ks) c e q r = record { chain = subst (λ v. IsChain legs s (k ∷ ks) v) e c; some = omega arith }
 
 -- the regret of a list that was walked along to the destination, from the best total in its worst choice
-pub regret_from_best : (legs : List Leg) (s t : ℕ) (ks : List ℕ) (w : Walked) → IsWalkedAlong legs s ks w → w.end ≡ t → (b : ℕ) → IsBest (seconds_rule (flagged_times w.flown)) legs s t b → (b ≤ w.high) × IsRegretOutcome (query legs s t) ks (regret_outcome (Ok (w.high - b)))
+pub regret_from_best : (legs : List Leg) (s t : ℕ) (ks : List ℕ) (w : Walked) → IsWalkedAlong legs s ks w → w.end ≡ t → (b : ℕ) → IsBest (seconds_rule (flagged_times w.flown)) legs s t b → (b ≤ w.high) × ((x : ℕ) → w.high ≡ b + x → IsRegretOutcome (query legs s t) ks (regret_outcome (Ok x)))
 regret_from_best legs s t ks w along e b best =
     let worst = flags_worst legs w.flown ks along.flags in
     let takes = time_same (flagged_choice legs w.flown) (highs legs) ks (λ k i. worst.on k i) in
     let route = chain_is_route legs s t w.end ks along.walk.chain e best.some.0 best.some.1 in
     let least = best_is_least legs s t w.flown b best in
     let below : b ≤ w.high = omega (arith, along.sums, least.least ks route) in
-    (below, (route, worst_choice_gives_regret (query legs s t) ks (flagged_choice legs w.flown) b (w.high - b) route worst least (omega (arith, along.sums))))
+    (below, λ x difference. (route, worst_choice_gives_regret (query legs s t) ks (flagged_choice legs w.flown) b x route worst least (omega (arith, along.sums, difference))))
 
 -- what is known of a list where its walk is kept only if it ends at t
 abbrev pub WalkedTo : ℕ → List Leg → ℕ → ℕ → List ℕ → Option Walked → Type 0

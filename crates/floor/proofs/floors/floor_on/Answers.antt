@@ -1,4 +1,4 @@
-use Rattle.std.proofs.Common.{◌≡◌, ◌+◌, ◌-◌, ◌≤◌, Ok, Err, refl, sym, inl, inr, arith}
+use Rattle.std.proofs.Common.{◌≡◌, ℕ, ◌+◌, ◌≤◌, Ok, Err, refl, sym, inl, inr, arith}
 use Rattle.std.proofs.lemmas.Bool.{eqb-true, eqb-false}
 use Rattle.std.proofs.lemmas.Result.{err_from_is_err_and}
 use Rattle.chart.specs.Regret.{query}
@@ -53,7 +53,7 @@ overflow_add-result c =
     omega arith
 
 -- where all three calls found something
-found : (c : goal.In_ok-choice_time) → (c.in_ok-choice_time.choice_time ≤ c.in_ok-walked.walked.high + c.in_ok-onward.onward) × IsFloorOutcome (query (snapshot_legs c.args.snapshot.now) c.args.ends.from c.args.ends.to) c.args.chain.now (floor_outcome (Ok (c.in_ok-walked.walked.high + c.in_ok-onward.onward - c.in_ok-choice_time.choice_time)))
+found : (c : goal.In_ok-choice_time) → (c.in_ok-choice_time.choice_time ≤ c.in_ok-walked.walked.high + c.in_ok-onward.onward) × ((y : ℕ) → c.in_ok-walked.walked.high + c.in_ok-onward.onward ≡ c.in_ok-choice_time.choice_time + y → IsFloorOutcome (query (snapshot_legs c.args.snapshot.now) c.args.ends.from c.args.ends.to) c.args.chain.now (floor_outcome (Ok y)))
 found c =
     let legs = snapshot_legs c.args.snapshot.now in
     let ends = c.args.ends in
@@ -68,4 +68,4 @@ pub overflow_sub-result : goal.overflow_sub-result
 overflow_sub-result c = let below = (found c).0 in omega arith
 
 pub returns : goal.returns
-returns c = (found c).1
+returns c = let f = found c in f.1 _ (omega (arith, f.0))

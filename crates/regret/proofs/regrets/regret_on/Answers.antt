@@ -1,4 +1,4 @@
-use Rattle.std.proofs.Common.{◌-◌, ◌≤◌, Ok, arith, rules}
+use Rattle.std.proofs.Common.{◌≡◌, ℕ, ◌+◌, ◌≤◌, Ok, arith, rules}
 use Rattle.std.proofs.lemmas.Result.{err_from_is_err_and}
 use Rattle.chart.specs.Regret.{query}
 use Rattle.search.specs.Snapshots.{snapshot_legs}
@@ -18,7 +18,7 @@ returns-in_err-walked c =
     none (route_leaves_fix (snapshot_legs s) (snapshot_is_chart s) ends.from ends.to c.args.list.now is_route) is_route.chain))
 
 -- where both calls found something
-found : (c : goal.In_ok-best) → (c.in_ok-best.best ≤ c.in_ok-walked.walked.high) × IsRegretOutcome (query (snapshot_legs c.args.snapshot.now) c.args.ends.from c.args.ends.to) c.args.list.now (regret_outcome (Ok (c.in_ok-walked.walked.high - c.in_ok-best.best)))
+found : (c : goal.In_ok-best) → (c.in_ok-best.best ≤ c.in_ok-walked.walked.high) × ((x : ℕ) → c.in_ok-walked.walked.high ≡ c.in_ok-best.best + x → IsRegretOutcome (query (snapshot_legs c.args.snapshot.now) c.args.ends.from c.args.ends.to) c.args.list.now (regret_outcome (Ok x)))
 found c =
     let s = c.args.snapshot.now in
     let ends = c.args.ends in
@@ -31,4 +31,4 @@ pub overflow_sub-result : goal.overflow_sub-result
 overflow_sub-result c = let below = (found c).0 in omega arith
 
 pub returns : goal.returns
-returns c = (found c).1
+returns c = let f = found c in f.1 _ (omega (arith, f.0))

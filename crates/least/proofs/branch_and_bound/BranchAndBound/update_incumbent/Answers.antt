@@ -1,4 +1,4 @@
-use Rattle.std.proofs.Common.{MatchBool, refl, rules}
+use Rattle.std.proofs.Common.{MatchBool, arith, rules}
 use Rattle.least.specs.internal.BranchAndBound.{searched_query}
 use Rattle.least.proofs.LexicalOrder.{preferred_told}
 use Rattle.least.proofs.UpdatedIncumbent.{IsBetter, IsNoBetter, better_told, better_replaces, worse_keeps}
@@ -16,7 +16,7 @@ returns-then-is_none_or-clause-searched c =
     let p = c.as_slice-list.result.now in
     let better = rw c.if-is_none_or.true at (told (goal.at.returns-then-is_none_or-clause-searched c).After-is_none_or) in
     let list = rw c.unwrap-list.ensures at c.try_from.ensures in
-    rw (← c.as_slice-list.ensures.value) (better_replaces (searched_query s) p c.in-Ok.regret c.in-Ok.ensures.0 c.in-Ok.ensures.1 s.incumbent c.requires better _ list.0 refl)
+    rw (← c.as_slice-list.ensures.value) (better_replaces (searched_query s) p c.in-Ok.regret c.in-Ok.ensures.0 c.in-Ok.ensures.1 s.incumbent c.requires better _ list.0 (omega arith))
 
 pub returns-else-is_none_or-clause-searched : goal.returns-else-is_none_or-clause-searched
 returns-else-is_none_or-clause-searched c =
